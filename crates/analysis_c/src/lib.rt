@@ -1,7 +1,7 @@
 // The report program as one call for C, over bytes in memory.
 #![tactic(auto)]
 
-ghost use Rattle.analysis_c.specs.Answers.{Answered};
+ghost use Rattle.analysis_c.specs.Answers.{CallAnswered};
 
 mod ends;
 mod filling;
@@ -36,7 +36,7 @@ pub extern "C" fn bolgwyr_report(
     report: &mut [u8],
     message: &mut [u8],
 ) -> Answer
-    ensures { Answered tree.now words.now report.old report.new message.old message.new result }
+    ensures { CallAnswered tree.now words.now report.old report.new message.old message.new result }
 {
     let mut out = SureSink::new(alloc);
     let mut errs = SureSink::new(alloc);

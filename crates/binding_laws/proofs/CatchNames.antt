@@ -27,7 +27,7 @@ use Rattle.semantic_model.specs.Inside.{is_inside, is_parameter_decorator}
 use Rattle.semantic_model.specs.ScopeKind.{strict_if, opened_scope}
 use Rattle.semantic_model.specs.Cursor.{on_entering}
 use Rattle.semantic_model.specs.Declaration.{plain, hoisted, moved, caught, Declaration}
-use Rattle.semantic_model.specs.Binder.{Row, declare, declare_here, is_var, marked_ambient, is_statement, is_block_function, variable_row, variables_under, function_row, class_row, is_pure_declarator, ids, parameter_excluded, parameters_under, import_flags, enums, member_named, namespace_row, type_parameter_route, type_parameter_row, declared_by}
+use Rattle.semantic_model.specs.Binder.{BinderRow, declaration_at, declare_here, is_var, marked_ambient, is_statement, is_block_function, variable_row, variables_under, function_row, class_row, is_pure_declarator, ids, parameter_excluded, parameters_under, import_flags, enums, member_named, namespace_row, type_parameter_route, type_parameter_row, declared_by}
 use Rattle.semantic_model.specs.Step.{Step, entering, opening, header_ending, closing, leaving, steps_below, steps, scope_at, child_place, root_place}
 use Rattle.semantic_model.proofs.fold.EachDeclared.{EachDeclared}
 use Rattle.semantic_model.proofs.form.Clauses.{kind_is}
@@ -46,7 +46,7 @@ IsNotCaught d = d.how ≡ caught → ⊥
 abbrev NoneCaught : List Declaration → Type 0
 NoneCaught = EachDeclared IsNotCaught
 
-row_none : (node : Node) (row : Row) (is_pure : Bool) (names : List Node) → (row.how ≡ caught → ⊥) → NoneCaught (map (declare node row is_pure) names)
+row_none : (node : Node) (row : BinderRow) (is_pure : Bool) (names : List Node) → (row.how ≡ caught → ⊥) → NoneCaught (map (declaration_at node row is_pure) names)
 row_none node row is_pure [] h = tt
 row_none node row is_pure (x ∷ xs) h = (h, row_none node row is_pure xs h)
 
@@ -78,14 +78,14 @@ functions p = by (is_statement p.node)
     row true q = rw q not_moved
     row false q = rw q not_plain
 
-    by : (b : Bool) → NoneCaught (cond b (map (declare p.node (function_row p) (has mark.Pure p.node)) (ids p.node)) [])
+    by : (b : Bool) → NoneCaught (cond b (map (declaration_at p.node (function_row p) (has mark.Pure p.node)) (ids p.node)) [])
     by true = row_none p.node (function_row p) (has mark.Pure p.node) (ids p.node) (row (is_block_function p) refl)
     by false = tt
 
 classes : (p : Place) → NoneCaught (declared_by kind.Class p)
 classes p = by (is_statement p.node)
   where
-    by : (b : Bool) → NoneCaught (cond b (map (declare p.node (class_row p p.chain) false) (ids p.node)) [])
+    by : (b : Bool) → NoneCaught (cond b (map (declaration_at p.node (class_row p p.chain) false) (ids p.node)) [])
     by true = row_none p.node (class_row p p.chain) false (ids p.node) not_plain
     by false = tt
 

@@ -4,7 +4,7 @@ use Rattle.std.proofs.lemmas.Bool.{ne_eqb, and_from, or_right}
 use Rattle.std.proofs.lemmas.Bool.Decides.{eqb_tells}
 use Rattle.semantic_model.specs.Place.{Place, OpenScope, outside}
 use Rattle.semantic_model.specs.Declaration.{How, plain, hoisted, moved, caught, Declaration}
-use Rattle.semantic_model.specs.Event.{Event, declares, takes_over, ends_header, is_barred, staying, placed_by, placed, declares_all}
+use Rattle.semantic_model.specs.Event.{Event, declares, takes_over, ends_header, is_barred, staying_declaration, placed_by, placed, declares_all}
 use Rattle.semantic_model.specs.Naming.{Naming}
 use Rattle.semantic_model.specs.Tie.{is_end_of}
 use Rattle.semantic_syntax.specs.Members.{contains}
@@ -84,7 +84,7 @@ placed_names hoisted ds d = refl
 placed_names caught ds d = refl
 placed_names moved ds d = by (is_barred ds d (outside d.route.passed))
   where
-    by : (b : Bool) → (if b then staying d else d).naming ≡ d.naming
+    by : (b : Bool) → (if b then staying_declaration d else d).naming ≡ d.naming
     by true = refl
     by false = refl
 
@@ -157,7 +157,7 @@ placed_by_var p caught ds d e v = rw e tt
 placed_by_var p hoisted ds d e v = rw e v
 placed_by_var p moved ds d e v = go (is_barred ds d (outside d.route.passed))
   where
-    go : (b : Bool) → IsByVar p (if b then staying d else d).how (if b then staying d else d).route.target
+    go : (b : Bool) → IsByVar p (if b then staying_declaration d else d).how (if b then staying_declaration d else d).route.target
     go true = tt
     go false = rw e v
 

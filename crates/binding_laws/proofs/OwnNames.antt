@@ -12,7 +12,7 @@ use Rattle.semantic_model.specs.Names.{bound_names, names_at}
 use Rattle.semantic_model.specs.Namespace.{InstanceState, non_instantiated, const_enum_only, instantiated, instance_state, nodes_around}
 use Rattle.semantic_model.specs.Place.{Place, OpenScope, parent_holds}
 use Rattle.semantic_model.specs.Declaration.{Declaration, caught, here}
-use Rattle.semantic_model.specs.Binder.{Row, declare, declare_here, ambient_if, marked_ambient, is_statement, is_special, is_block_function, variable_row, variables_under, function_flags, function_row, own_function_row, class_row, is_pure_declarator, ids, parameter_excluded, parameters_under, catch_names, import_flags, enums, member_named, namespace_row, type_parameter_route, type_parameter_row, declared_by, declared_inside}
+use Rattle.semantic_model.specs.Binder.{BinderRow, declaration_at, declare_here, ambient_if, marked_ambient, is_statement, is_special, is_block_function, variable_row, variables_under, function_flags, function_row, own_function_row, class_row, is_pure_declarator, ids, parameter_excluded, parameters_under, catch_names, import_flags, enums, member_named, namespace_row, type_parameter_route, type_parameter_row, declared_by, declared_inside}
 use Rattle.semantic_model.proofs.fold.EachDeclared.{EachDeclared}
 use Rattle.binding_laws.specs.SeenDeclarations.{is_own_name}
 
@@ -29,7 +29,7 @@ AllOther = EachDeclared IsOther
 abbrev AreOther : ℕ → Type 0
 AreOther flags = meets flags symbol.FunctionExpression.bits ≡ false
 
-row_other : (node : Node) (row : Row) (is_pure : Bool) (names : List Node) → AreOther row.flags → AllOther (map (declare node row is_pure) names)
+row_other : (node : Node) (row : BinderRow) (is_pure : Bool) (names : List Node) → AreOther row.flags → AllOther (map (declaration_at node row is_pure) names)
 row_other node row is_pure [] h = tt
 row_other node row is_pure (x ∷ xs) h = (h, row_other node row is_pure xs h)
 
@@ -41,7 +41,7 @@ other-append : (ds es : List Declaration) → AllOther ds → AllOther es → Al
 other-append [] es h k = k
 other-append (d ∷ ds) es h k = (h.0, other-append ds es h.1 k)
 
--- with `declare` or without
+-- with `declaration_at` or without
 marked_other : (x : ℕ) (node : Node) → AreOther (union x symbol.Ambient.bits) → AreOther (union x 0) → AreOther (union x (marked_ambient node))
 marked_other x node h k = by (has mark.Declare node)
   where
@@ -91,14 +91,14 @@ functions p = by (is_statement p.node) refl
     row s true q = rw q (statement_flags p.node s)
     row s false q = rw q (statement_flags p.node s)
 
-    by : (b : Bool) → is_statement p.node ≡ b → AllOther (cond b (map (declare p.node (function_row p) (has mark.Pure p.node)) (ids p.node)) [])
+    by : (b : Bool) → is_statement p.node ≡ b → AllOther (cond b (map (declaration_at p.node (function_row p) (has mark.Pure p.node)) (ids p.node)) [])
     by true s = row_other p.node (function_row p) (has mark.Pure p.node) (ids p.node) (row s (is_block_function p) refl)
     by false s = tt
 
 classes : (p : Place) → AllOther (declared_by kind.Class p)
 classes p = by (is_statement p.node)
   where
-    by : (b : Bool) → AllOther (cond b (map (declare p.node (class_row p p.chain) false) (ids p.node)) [])
+    by : (b : Bool) → AllOther (cond b (map (declaration_at p.node (class_row p p.chain) false) (ids p.node)) [])
     by true = row_other p.node (class_row p p.chain) false (ids p.node) (marked_other symbol.Class.bits p.node refl refl)
     by false = tt
 
@@ -117,10 +117,10 @@ catches : (p : Place) (patterns : List Node) → AllOther (flat_map (catch_names
 catches p [] = tt
 catches p (x ∷ xs) = other-append (catch_names p x) (flat_map (catch_names p) xs) (by (is kind.BindingIdentifier x)) (catches p xs)
   where
-    row : Row
+    row : BinderRow
     row = record { flags = union symbol.FunctionScopedVariable.bits symbol.CatchVariable.bits; excluded = 0; how = caught; route = here p.chain }
 
-    by : (b : Bool) → AllOther (if b then declare p.node row false x ∷ [] else declare_here p (union symbol.BlockScopedVariable.bits symbol.CatchVariable.bits) symbol.BlockScopedVariableExcludes.bits (bound_names x))
+    by : (b : Bool) → AllOther (if b then declaration_at p.node row false x ∷ [] else declare_here p (union symbol.BlockScopedVariable.bits symbol.CatchVariable.bits) symbol.BlockScopedVariableExcludes.bits (bound_names x))
     by true = (refl, tt)
     by false = here_other p (union symbol.BlockScopedVariable.bits symbol.CatchVariable.bits) symbol.BlockScopedVariableExcludes.bits (bound_names x) refl
 
@@ -169,7 +169,7 @@ entering_other _ p = tt
 pub class_other : (p : Place) (own : OpenScope) → AllOther (declared_inside kind.Class p own)
 class_other p own = by (is_statement p.node)
   where
-    by : (b : Bool) → AllOther (cond b [] (map (declare p.node (class_row p (own ∷ [])) false) (ids p.node)))
+    by : (b : Bool) → AllOther (cond b [] (map (declaration_at p.node (class_row p (own ∷ [])) false) (ids p.node)))
     by true = tt
     by false = row_other p.node (class_row p (own ∷ [])) false (ids p.node) (marked_other symbol.Class.bits p.node refl refl)
 
@@ -180,10 +180,10 @@ key_other p own = row_other p.node (type_parameter_row (here (own ∷ []))) fals
 pub own_named : (p : Place) (own : OpenScope) → EachDeclared IsOwnName (declared_inside kind.Function p own)
 own_named p own = by (is_statement p.node) refl
   where
-    row_own : (names : List Node) → is_statement p.node ≡ false → EachDeclared IsOwnName (map (declare p.node (own_function_row p own) (has mark.Pure p.node)) names)
+    row_own : (names : List Node) → is_statement p.node ≡ false → EachDeclared IsOwnName (map (declaration_at p.node (own_function_row p own) (has mark.Pure p.node)) names)
     row_own [] s = tt
     row_own (x ∷ xs) s = (expression_flags p.node s, row_own xs s)
 
-    by : (b : Bool) → is_statement p.node ≡ b → EachDeclared IsOwnName (cond b [] (map (declare p.node (own_function_row p own) (has mark.Pure p.node)) (ids p.node)))
+    by : (b : Bool) → is_statement p.node ≡ b → EachDeclared IsOwnName (cond b [] (map (declaration_at p.node (own_function_row p own) (has mark.Pure p.node)) (ids p.node)))
     by true s = tt
     by false s = row_own (ids p.node) s

@@ -13,7 +13,7 @@ use Rattle.semantic_tree.specs.Tree.{Tree}
 use Rattle.semantic_model.specs.Binder.{is_var, declared_by, declared_on_entering, declared_inside, declared_on_opening}
 use Rattle.semantic_model.specs.Declaration.{How, plain, hoisted, moved, caught, Declaration, Route, here, passed_before, first_with, route_from, outward_to, outward_past, stands_in, scope_it_stands_in}
 use Rattle.semantic_model.specs.Entries.{Among}
-use Rattle.semantic_model.specs.Event.{Event, declares, takes_over, ends_header, is_barred, staying, placed_by, placed, is_catch_body, taken_over, declares_all, events_of, written_declarations, events, declarations}
+use Rattle.semantic_model.specs.Event.{Event, declares, takes_over, ends_header, is_barred, staying_declaration, placed_by, placed, is_catch_body, taken_over, declares_all, events_of, written_declarations, events, declarations}
 use Rattle.semantic_model.specs.Fold.{start}
 use Rattle.semantic_model.specs.Place.{Place, OpenScope, innermost, outside}
 use Rattle.semantic_model.specs.Step.{Step, entering, opening, header_ending, closing, leaving, steps}
@@ -168,7 +168,7 @@ module _ (fs : List ℕ) where
   placed_passing hoisted ds d e h = rw e h
   placed_passing moved ds d e h = by (is_barred ds d (outside d.route.passed))
     where
-      by : (b : Bool) → IsPassing (if b then staying d else d).how (if b then staying d else d).route
+      by : (b : Bool) → IsPassing (if b then staying_declaration d else d).how (if b then staying_declaration d else d).route
       by true = tt
       by false = rw e h
 
@@ -178,7 +178,7 @@ module _ (fs : List ℕ) where
   placed_clausal hoisted ds d h = h
   placed_clausal moved ds d h = by (is_barred ds d (outside d.route.passed))
     where
-      by : (b : Bool) → IsClausal (if b then staying d else d)
+      by : (b : Bool) → IsClausal (if b then staying_declaration d else d)
       by true = λ i. absurd cc
       by false = h
 
@@ -188,7 +188,7 @@ module _ (fs : List ℕ) where
   placed_reaching hoisted ds d e h = rw e h
   placed_reaching moved ds d e h = by (is_barred ds d (outside d.route.passed))
     where
-      by : (b : Bool) → IsReaching (if b then staying d else d).how (if b then staying d else d).route
+      by : (b : Bool) → IsReaching (if b then staying_declaration d else d).how (if b then staying_declaration d else d).route
       by true = tt
       by false = rw e h
 

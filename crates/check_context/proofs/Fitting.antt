@@ -12,7 +12,7 @@ use Rattle.node_store.specs.declared.ancestry.Ancestry.{Ancestry}
 use Rattle.node_store.specs.declared.ancestry.Ancestry.TheVariants.{Nodes, Stack}
 use Rattle.check_context.specs.declared.context.CheckContext.{CheckContext}
 use Rattle.check_context.specs.Handed.{IsContext, IsHanded}
-use Rattle.check_context.specs.Fitting.{is_in_store, is_current, fits, fits_node}
+use Rattle.check_context.specs.Fitting.{is_in_store, is_current, context_fits, fits_node}
 
 -- both of two tests hold, and only so
 pub both_hold : (a b : Bool) → (a && b) ≡ true → (a ≡ true) × (b ≡ true)
@@ -57,7 +57,7 @@ module _ (ctx : CheckContext) where
   abbrev in_limit : Bool
   in_limit = nat_le (length ctx.source_text.now) source_limit
 
-  pub tested_context : fits ctx ≡ true → IsContext ctx
+  pub tested_context : context_fits ctx ≡ true → IsContext ctx
   tested_context h =
       let stored = both_hold (is_in_store ctx.ancestry) (is_current ctx.classes.now && (in_scopes && in_limit)) h in
       let current = both_hold (is_current ctx.classes.now) (in_scopes && in_limit) stored.1 in
@@ -69,14 +69,14 @@ module _ (ctx : CheckContext) where
         source = most (length ctx.source_text.now) source_limit rest.1;
       }
 
-  pub context_told : IsContext ctx → fits ctx ≡ true
+  pub context_told : IsContext ctx → context_fits ctx ≡ true
   context_told h =
       holds_both (is_in_store ctx.ancestry) (is_current ctx.classes.now && (in_scopes && in_limit)) (store_told ctx.ancestry h.path)
       (holds_both (is_current ctx.classes.now) (in_scopes && in_limit) (table_told (length ctx.classes.now.classes.nodes) ctx.classes.now.current_class_id h.class)
       (holds_both in_scopes in_limit (is_less ctx.current_scope_id (length ctx.scoping.now.scopes) h.scope) (is_most (length ctx.source_text.now) source_limit h.source)))
 
   pub tested_handed : (node : Node) → fits_node node ctx ≡ true → IsHanded node ctx
-  tested_handed node h = let both = both_hold (fits ctx) (is_sound ctx.source_text.now node.span) h in record { context = tested_context both.0; span = both.1 }
+  tested_handed node h = let both = both_hold (context_fits ctx) (is_sound ctx.source_text.now node.span) h in record { context = tested_context both.0; span = both.1 }
 
   pub handed_told : (node : Node) → IsHanded node ctx → fits_node node ctx ≡ true
-  handed_told node h = holds_both (fits ctx) (is_sound ctx.source_text.now node.span) (context_told h.context) h.span
+  handed_told node h = holds_both (context_fits ctx) (is_sound ctx.source_text.now node.span) (context_told h.context) h.span

@@ -4,19 +4,19 @@ use Rattle.std.specs.Prelude.{flat_map, IfOk}
 use Rattle.std.specs.Result.{IsErrAnd}
 use Rattle.std.proofs.lemmas.List.{append-nil, append_assoc}
 use Rattle.semantic_diagnostics.specs.declared.diagnostic.Diagnostic.{Diagnostic}
-use Rattle.check_context.specs.Tells.{IsBegun, IsTelling, Tells, TellsMade}
+use Rattle.check_context.specs.Tells.{TellsSome, IsTelling, Tells, TellsMade}
 
 -- nothing is told yet
-pub none_told : (rows before now : List Diagnostic) → now ≡ before → IsBegun rows before now
+pub none_told : (rows before now : List Diagnostic) → now ≡ before → TellsSome rows before now
 none_told rows before now h = record { told = []; left = rows; are_first = refl; are_last = h ∙ sym (append-nil before) }
 
 -- the first of the first rows are the first of all
-pub first_begun : (rows more before now : List Diagnostic) → IsBegun rows before now → IsBegun (rows ++ more) before now
+pub first_begun : (rows more before now : List Diagnostic) → TellsSome rows before now → TellsSome (rows ++ more) before now
 first_begun rows more before now h =
     record { told = h.told; left = h.left ++ more; are_first = sym (append_assoc h.told h.left more) ∙ ap (λ l. l ++ more) h.are_first; are_last = h.are_last }
 
 -- all the first rows are told, and then the first of the others
-pub then_begun : (rows more before mid now : List Diagnostic) → mid ≡ before ++ rows → IsBegun more mid now → IsBegun (rows ++ more) before now
+pub then_begun : (rows more before mid now : List Diagnostic) → mid ≡ before ++ rows → TellsSome more mid now → TellsSome (rows ++ more) before now
 then_begun rows more before mid now h k =
     record {
       told = rows ++ k.told;
@@ -46,7 +46,7 @@ goes_on rows own more before mid now h k =
       are_last = k ∙ ap (λ l. l ++ own) h.are_last ∙ append_assoc before h.told own;
     }
 
-pub stops : (rows own more before mid now : List Diagnostic) → IsTelling rows (own ++ more) before mid → IsBegun own mid now → IsBegun rows before now
+pub stops : (rows own more before mid now : List Diagnostic) → IsTelling rows (own ++ more) before mid → TellsSome own mid now → TellsSome rows before now
 stops rows own more before mid now h k =
     record {
       told = h.told ++ k.told;
@@ -59,7 +59,7 @@ pub ends : (rows before now : List Diagnostic) → IsTelling rows [] before now 
 ends rows before now h = h.are_last ∙ ap (λ l. before ++ l) (sym (append-nil h.told) ∙ h.are_first)
 
 -- of two checks the first stops for want of memory
-pub first_stops : {A E : Type 0} (P : E → Type 0) (r : Result A E) (rows more before now : List Diagnostic) → IsErrAnd r P → IsBegun rows before now → Tells r (rows ++ more) before now
+pub first_stops : {A E : Type 0} (P : E → Type 0) (r : Result A E) (rows more before now : List Diagnostic) → IsErrAnd r P → TellsSome rows before now → Tells r (rows ++ more) before now
 first_stops P (Ok done) rows more before now h k = absurd h
 first_stops P (Err want) rows more before now h k = first_begun rows more before now k
 
@@ -75,7 +75,7 @@ goes_past f rows before mid now xs x rest is t k = goes_on rows (f x) (flat_map 
 
 -- a loop stops at an element
 pub loop_stops : {A E X : Type 0} (P : E → Type 0) (f : X → List Diagnostic) (rows before mid now : List Diagnostic) (xs : List X) (x : X) (rest : List X) (r : Result A E)
-    → IsErrAnd r P → xs ≡ x ∷ rest → IsTelling rows (flat_map f xs) before mid → IsBegun (f x) mid now → Tells r rows before now
+    → IsErrAnd r P → xs ≡ x ∷ rest → IsTelling rows (flat_map f xs) before mid → TellsSome (f x) mid now → Tells r rows before now
 loop_stops P f rows before mid now xs x rest (Ok done) h is t k = absurd h
 loop_stops P f rows before mid now xs x rest (Err want) h is t k =
     stops rows (f x) (flat_map f rest) before mid now (subst (λ l. IsTelling rows (flat_map f l) before mid) is t) k

@@ -19,9 +19,9 @@ abbrev pub is_current : ClassTableBuilder → Bool
 is_current b = option_map_or (λ c. nat_lt c (length b.classes.nodes)) b.current_class_id true
 
 -- the current node is in its store, class and scope are in their tables, and the source keeps its limit
-abbrev pub fits : CheckContext → Bool
-fits ctx = is_in_store ctx.ancestry && (is_current ctx.classes.now && (nat_lt ctx.current_scope_id (length ctx.scoping.now.scopes) && nat_le (length ctx.source_text.now) source_limit))
+abbrev pub context_fits : CheckContext → Bool
+context_fits ctx = is_in_store ctx.ancestry && (is_current ctx.classes.now && (nat_lt ctx.current_scope_id (length ctx.scoping.now.scopes) && nat_le (length ctx.source_text.now) source_limit))
 
 -- and the node stands in the source, on characters
 abbrev pub fits_node : Node → CheckContext → Bool
-fits_node node ctx = fits ctx && is_sound ctx.source_text.now node.span
+fits_node node ctx = context_fits ctx && is_sound ctx.source_text.now node.span

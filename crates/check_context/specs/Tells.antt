@@ -3,7 +3,7 @@ use Rattle.std.specs.Prelude.{◌≡◌, List, [], ◌∷◌, ◌++◌, Result, 
 use Rattle.semantic_diagnostics.specs.declared.diagnostic.Diagnostic.{Diagnostic}
 
 -- the first of the rows are told, behind all that was told before
-pub record IsBegun (rows before now : List Diagnostic) : Type 0 where
+pub record TellsSome (rows before now : List Diagnostic) : Type 0 where
   pub told : List Diagnostic
   pub left : List Diagnostic
   pub are_first : told ++ left ≡ rows
@@ -12,7 +12,7 @@ pub record IsBegun (rows before now : List Diagnostic) : Type 0 where
 -- the rows are told, behind all that was told before; for want of memory the first of them
 abbrev pub Tells : {A E : Type 0} → Result A E → List Diagnostic → List Diagnostic → List Diagnostic → Type 0
 Tells (Ok done) rows before now = now ≡ before ++ rows
-Tells (Err want) rows before now = IsBegun rows before now
+Tells (Err want) rows before now = TellsSome rows before now
 
 -- the row that was made is told; where memory was wanting to make it nothing is told, which is a beginning of any rows
 abbrev pub TellsMade : {A E : Type 0} → Result Diagnostic E → Result A E → List Diagnostic → List Diagnostic → Type 0

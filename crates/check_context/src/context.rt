@@ -8,7 +8,7 @@ ghost use Rattle.semantic_syntax.specs.Reading.{scope_of, parent_of};
 ghost use Rattle.check_model.specs.Context.{seen_row};
 ghost use Rattle.check_model.specs.Functions.{is_async_or_generator};
 ghost use Rattle.check_model.specs.Search.{first};
-ghost use Rattle.check_model.specs.Sight.{entries_of};
+ghost use Rattle.check_model.specs.Sight.{symbol_entries};
 ghost use Rattle.check_model.specs.Surroundings.{parent, is_under, is_in_class, scope_passes, is_strict, is_in_function, is_at_top, is_in_static_block, bytes_at};
 ghost use Rattle.check_context.specs.Handed.{around, is_block_or_function, IsContext};
 
@@ -198,7 +198,7 @@ impl<'a, 'n> CheckContext<'a, 'n> {
     /// The declarations of the symbol of a binding identifier, if it is declared more than once.
     #[tactic(auto, using(crate::proofs::Declared::entries))]
     pub fn entries_of(&self, ident: AstKind<'_>) -> &'n [Redeclaration]
-        ensures { result.now ≡ entries_of (around self.now) ident.entry.node.now }
+        ensures { result.now ≡ symbol_entries (around self.now) ident.entry.node.now }
     {
         match self.tables.symbol_of(ident.node_id()) {
             Some(symbol) if symbol.index() < self.scoping.symbols_len() => {
@@ -212,7 +212,7 @@ impl<'a, 'n> CheckContext<'a, 'n> {
     #[tactic(auto, using(crate::proofs::Declared::entries))]
     pub fn plain_entries_of(&self, ident: AstKind<'_>) -> usize
         ensures { result ≡ position_or_len is_async_or_generator
-            (entries_of (around self.now) ident.entry.node.now) }
+            (symbol_entries (around self.now) ident.entry.node.now) }
     {
         match self.tables.symbol_of(ident.node_id()) {
             Some(symbol) if symbol.index() < self.scoping.symbols_len() => {

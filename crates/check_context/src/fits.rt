@@ -1,6 +1,6 @@
 //! Whether what is handed to a check fits together, for a caller that isn't a walk.
 ghost use Rattle.std.specs.Prelude.{◌≡◌};
-ghost use Rattle.check_context.specs.Fitting.{is_in_store, is_current, fits, fits_node};
+ghost use Rattle.check_context.specs.Fitting.{is_in_store, is_current, context_fits, fits_node};
 
 use crate::context::CheckContext;
 use class_table::ClassTableBuilder;
@@ -36,7 +36,7 @@ impl<'a, 'n> CheckContext<'a, 'n> {
     /// Whether the current node is in its store, class and scope are in their tables, and the source keeps the limit of a
     /// program's.
     fn fits(&self) -> bool
-        ensures { result ≡ fits self.now }
+        ensures { result ≡ context_fits self.now }
     {
         is_in_store(&self.ancestry)
             && is_current(self.classes)

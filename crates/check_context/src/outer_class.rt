@@ -1,6 +1,6 @@
 //! The class around a class.
 ghost use Rattle.std.specs.Prelude.{◌≡◌, ◌<◌, drop, length, slice_index_or, Some, IfSome};
-ghost use Rattle.class_table.specs.Outward.{parent_in, StandBefore};
+ghost use Rattle.class_table.specs.Outward.{parent_class, StandBefore};
 ghost use Rattle.check_model.specs.Context.{classes_from};
 
 use crate::context::CheckContext;
@@ -10,7 +10,7 @@ use semantic_syntax::ClassId;
 /// The class around a class, which stands before it.
 fn class_around(classes: &ClassTable<'_>, class: ClassId) -> Option<ClassId>
     requires { class < length classes.now.nodes }
-    ensures value { result ≡ parent_in classes.now.parents class }
+    ensures value { result ≡ parent_class classes.now.parents class }
     ensures before { StandBefore classes.now.parents }
 {
     classes.parent_ids.get(&class).copied()

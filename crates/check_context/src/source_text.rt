@@ -2,7 +2,7 @@
 ghost use Rattle.std.specs.Prelude.{◌≡◌, true};
 ghost use Rattle.std.specs.Str.{chars};
 ghost use Rattle.semantic_tree.specs.Sound.{is_sound};
-ghost use Rattle.check_model.specs.Surroundings.{text_at};
+ghost use Rattle.check_model.specs.Surroundings.{text_under};
 ghost use Rattle.check_context.specs.Handed.{around};
 
 use crate::context::CheckContext;
@@ -13,7 +13,7 @@ impl<'a, 'n> CheckContext<'a, 'n> {
     #[tactic(auto, using(crate::proofs::SoundSpans::sound))]
     pub fn text_at(&self, span: Span) -> &'a str
         requires { is_sound self.now.source_text.now span ≡ true }
-        ensures { chars result.now ≡ text_at (around self.now) span }
+        ensures { chars result.now ≡ text_under (around self.now) span }
     {
         span.source_text(self.source_text)
     }

@@ -11,17 +11,17 @@ use Rattle.semantic_diagnostics.specs.Types.{ts_export_assignment_cannot_be_used
 use Rattle.check_model.specs.Search.{row_if, rows_if}
 
 -- the statement exports something otherwise than by assignment
-abbrev pub exports_by : AstType → Node → Bool
-exports_by kinds.ExportNamedDeclaration statement = has_child roles.Specifiers statement
-exports_by kinds.ExportFromDeclaration statement = has_child roles.Specifiers statement
-exports_by kinds.ExportDefaultDeclaration statement = true
-exports_by kinds.ExportAllDeclaration statement = true
-exports_by kinds.ExportDeclaration statement = true
-exports_by _ statement = false
+abbrev pub exports_otherwise_by : AstType → Node → Bool
+exports_otherwise_by kinds.ExportNamedDeclaration statement = has_child roles.Specifiers statement
+exports_otherwise_by kinds.ExportFromDeclaration statement = has_child roles.Specifiers statement
+exports_otherwise_by kinds.ExportDefaultDeclaration statement = true
+exports_otherwise_by kinds.ExportAllDeclaration statement = true
+exports_otherwise_by kinds.ExportDeclaration statement = true
+exports_otherwise_by _ statement = false
 
 -- the same, by the kind of the statement
-abbrev pub exports : Node → Bool
-exports statement = exports_by statement.kind statement
+abbrev pub exports_otherwise : Node → Bool
+exports_otherwise statement = exports_otherwise_by statement.kind statement
 
 -- what is said of an export assignment beside other exports
 abbrev pub assignment_row : Node → List Diagnostic
@@ -29,7 +29,7 @@ assignment_row statement = row_if (is kinds.TSExportAssignment statement) (ts_ex
 
 -- an export assignment is the only export of its list of statements (TypeScript 2309)
 abbrev pub export_assignment_rows : List Node → List Diagnostic
-export_assignment_rows statements = rows_if (list_any exports statements) (flat_map assignment_row statements)
+export_assignment_rows statements = rows_if (list_any exports_otherwise statements) (flat_map assignment_row statements)
 
 -- the same of the statements of a block
 abbrev pub block_rows : Node → List Diagnostic

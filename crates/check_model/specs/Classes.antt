@@ -13,7 +13,7 @@ use Rattle.semantic_diagnostics.specs.Functions.{require_class_name, duplicate_c
 use Rattle.semantic_syntax.specs.Tables.{Name}
 use Rattle.semantic_model.specs.Element.{is_named}
 use Rattle.semantic_model.specs.Class.{PrivateUse}
-use Rattle.check_model.specs.Sight.{SeenClass, Sight, entries_of}
+use Rattle.check_model.specs.Sight.{SeenClass, Sight, symbol_entries}
 use Rattle.check_model.specs.Entries.{one_before_last}
 use Rattle.check_model.specs.Search.{row_if, rows_if, rows_of_some}
 use Rattle.check_model.specs.Surroundings.{is_typescript, is_under, first_bytes}
@@ -71,4 +71,4 @@ check_class s = private_use_rows s ++ (class_name_rows s ++ constructor_rows s)
 abbrev pub check_class_redeclaration : Sight → List Diagnostic
 check_class_redeclaration s =
     rows_if (not (is_typescript s))
-    (rows_of_some (λ ident. rows_of_some (λ before. row_if (meets before.flags.bits symbol.Function.bits) (redeclaration ident.text before.span ident.span)) (one_before_last (entries_of s ident))) (child_of roles.Id s.node))
+    (rows_of_some (λ ident. rows_of_some (λ before. row_if (meets before.flags.bits symbol.Function.bits) (redeclaration ident.text before.span ident.span)) (one_before_last (symbol_entries s ident))) (child_of roles.Id s.node))

@@ -10,7 +10,7 @@ use Rattle.semantic_model.specs.Class.{PrivateUse}
 use Rattle.semantic_syntax.specs.NodeEntries.{NodeEntries}
 use Rattle.semantic_syntax.specs.Reading.{scope_of, reference_of, bindings_of, chain}
 use Rattle.class_table.specs.Lists.{ClassLists, elements_in, uses_in}
-use Rattle.class_table.specs.Outward.{outward_from}
+use Rattle.class_table.specs.Outward.{classes_outward_from}
 use Rattle.check_model.specs.Sight.{Sight, SeenScope, SeenClass}
 use Rattle.check_model.specs.SightOf.{free_by}
 
@@ -45,7 +45,7 @@ seen_class lists c = record { node = slice_index_or lists.nodes c 0; elements = 
 
 -- the current class and those around it
 abbrev pub classes_from : ClassLists → Option ℕ → List SeenClass
-classes_from lists current = map (seen_class lists) (outward_from lists.parents current)
+classes_from lists current = map (seen_class lists) (classes_outward_from lists.parents current)
 
 -- the uses in the current class
 abbrev pub uses_from : ClassLists → Option ℕ → List PrivateUse

@@ -8,7 +8,7 @@ use Rattle.semantic_diagnostics.specs.Names.{redeclaration, static_and_instance_
 use Rattle.semantic_model.specs.Element.{Element}
 use Rattle.check_model.specs.Sight.{Sight}
 use Rattle.check_model.specs.Search.{row_if, rows_of_some, find_last, each_after}
-use Rattle.check_model.specs.Surroundings.{is_typescript, text_at}
+use Rattle.check_model.specs.Surroundings.{is_typescript, text_under}
 
 -- both, or neither
 abbrev pub same_truth : Bool → Bool → Bool
@@ -51,7 +51,7 @@ abbrev pub clash_row : Sight → Element → Element → Diagnostic
 clash_row s before own =
     if own.is_private && (is_typescript s && not (same_truth before.is_static own.is_static))
     then static_and_instance_private_identifier own.name before.span own.span
-    else redeclaration (text_at s before.span) before.span own.span
+    else redeclaration (text_under s before.span) before.span own.span
 
 -- an element does not clash with its predecessor
 abbrev pub element_rows : Sight → List Element → Element → List Diagnostic

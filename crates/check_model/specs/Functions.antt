@@ -7,7 +7,7 @@ use Rattle.semantic_tree.specs.Views.{has, child_of}
 use Rattle.semantic_diagnostics.specs.declared.diagnostic.Diagnostic.{Diagnostic}
 use Rattle.semantic_diagnostics.specs.Names.{redeclaration}
 use Rattle.semantic_syntax.specs.declared.references.Redeclaration.{Redeclaration}
-use Rattle.check_model.specs.Sight.{Sight, entries_of}
+use Rattle.check_model.specs.Sight.{Sight, symbol_entries}
 use Rattle.check_model.specs.Entries.{before_last, one_before_last}
 use Rattle.check_model.specs.Search.{rows_if, rows_of_some}
 use Rattle.check_model.specs.Surroundings.{is_strict, is_module, is_typescript, is_in_function, is_at_top, scope_passes}
@@ -50,4 +50,4 @@ redeclared_rows s ident entries =
 abbrev pub check_function_redeclaration : Sight → List Diagnostic
 check_function_redeclaration s =
     rows_if (not (is_typescript s) && (is_declared_function s.node && not (is_function_decl_part_of_if_statement s)))
-    (rows_of_some (λ ident. redeclared_rows s ident (entries_of s ident)) (child_of roles.Id s.node))
+    (rows_of_some (λ ident. redeclared_rows s ident (symbol_entries s ident)) (child_of roles.Id s.node))

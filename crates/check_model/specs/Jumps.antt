@@ -14,12 +14,12 @@ use Rattle.semantic_kinds.specs.declared.kind.AstType.TheVariants as kinds
 use Rattle.semantic_kinds.specs.declared.role.Role.TheVariants as roles
 
 -- no jump leaves a function or a static block
-abbrev pub is_boundary : Node → Bool
-is_boundary node = is_jump_boundary node.kind
+abbrev pub stops_jumps : Node → Bool
+stops_jumps node = is_jump_boundary node.kind
 
 -- the search for a target ends here
-abbrev pub is_end : Node → Bool
-is_end node = is_boundary node || is kinds.Program node
+abbrev pub ends_jump_search : Node → Bool
+ends_jump_search node = stops_jumps node || is kinds.Program node
 
 -- the target of a `continue`
 abbrev pub is_loop_node : Node → Bool
@@ -35,7 +35,7 @@ is_labelled_by label node = is kinds.LabeledStatement node && whose roles.Label 
 
 -- a jump without label needs a target around it
 abbrev pub unlabelled_rows : (Node → Bool) → Diagnostic → List Node → List Diagnostic
-unlabelled_rows is_target refusal path = rows_of_some (λ met. row_if (not (is_target met)) refusal) (find (λ node. is_end node || is_target node) path)
+unlabelled_rows is_target refusal path = rows_of_some (λ met. row_if (not (is_target met)) refusal) (find (λ node. ends_jump_search node || is_target node) path)
 
 -- what the label's statement comes to as a target, from its own label to the jump's
 abbrev pub continue_rows : Node → Node → List Diagnostic
@@ -46,12 +46,12 @@ continue_rows label target =
 -- a jump with a label needs a statement of that label around it, in the same function
 abbrev pub met_rows : (Node → List Diagnostic) → Node → Node → List Diagnostic
 met_rows target_rows label met =
-    if is_boundary met then invalid_label_jump_target label.span ∷ []
+    if stops_jumps met then invalid_label_jump_target label.span ∷ []
     else (if is kinds.Program met then invalid_label_target label.span ∷ [] else target_rows met)
 
 -- what the search for the label meets first
 abbrev pub labelled_rows : (Node → List Diagnostic) → Node → List Node → List Diagnostic
-labelled_rows target_rows label path = rows_of_some (met_rows target_rows label) (find (λ node. is_end node || is_labelled_by label node) path)
+labelled_rows target_rows label path = rows_of_some (met_rows target_rows label) (find (λ node. ends_jump_search node || is_labelled_by label node) path)
 
 -- a `break` without label, or with one
 abbrev pub break_rows : Option Node → Span → List Node → List Diagnostic
@@ -73,7 +73,7 @@ check_continue_statement s = continue_rows_by (child_of roles.Label s.node) s.no
 
 -- the statement around the node in the same function that has the label too
 abbrev pub same_label_around : Node → List Node → Option Node
-same_label_around label path = find_before is_boundary (is_labelled_by label) path
+same_label_around label path = find_before stops_jumps (is_labelled_by label) path
 
 -- labels inside each other are different
 abbrev pub own_label_rows : List Node → Node → List Diagnostic

@@ -10,7 +10,7 @@ use Rattle.semantic_diagnostics.specs.declared.diagnostic.Diagnostic.{Diagnostic
 use Rattle.semantic_diagnostics.specs.Names.{legacy_octal, leading_zero_decimal, non_octal_decimal_escape_sequence, illegal_use_strict}
 use Rattle.check_model.specs.Sight.{Sight, SeenScope}
 use Rattle.check_model.specs.Search.{row_if, rows_if, rows_of_some, passes, first}
-use Rattle.check_model.specs.Surroundings.{is_strict, is_under, is_in_function, node_of, bytes_at}
+use Rattle.check_model.specs.Surroundings.{is_strict, is_under, is_in_function, node_by_id, bytes_at}
 use Rattle.semantic_kinds.specs.declared.kind.AstType.TheVariants as kinds
 use Rattle.semantic_kinds.specs.declared.role.Role.TheVariants as roles
 use Rattle.semantic_kinds.specs.declared.mark.Mark.TheVariants as mark
@@ -87,7 +87,7 @@ check_string_literal s =
 -- the node that opened a scope
 abbrev pub opener : Sight → Option SeenScope → Option Node
 opener s None = None
-opener s (Some seen) = node_of s seen.opener
+opener s (Some seen) = node_by_id s seen.opener
 
 -- the parameters of the current scope's function are not simple
 abbrev pub has_complex_parameters : Sight → Bool

@@ -59,7 +59,7 @@ implementation_rows before member after =
     (rows_of_some (λ key. missing_implementation member key ∷ []) (child_of roles.Key member))
 
 -- a class that is not abstract has no abstract members, and code that is not ambient has a body for each method
-abbrev pub check_class : Sight → List Diagnostic
-check_class s =
+abbrev pub check_class_members : Sight → List Diagnostic
+check_class_members s =
     rows_if (not (has mark.Abstract s.node)) (flat_map abstract_rows (members s.node))
     ++ rows_if (not s.is_ambient) (each_between implementation_rows None (members s.node))

@@ -22,12 +22,12 @@ use Rattle.semantic_diagnostics.specs.declared.contexts.UnexpectedIdentifierAssi
 -- ---- identifiers
 
 -- the words that strict code reserves
-abbrev pub reserved_words : List (List ℕ)
-reserved_words = codes "implements" ∷ codes "interface" ∷ codes "let" ∷ codes "package" ∷ codes "private" ∷ codes "protected" ∷ codes "public" ∷ codes "static" ∷ codes "yield" ∷ []
+abbrev pub strict_reserved_words : List (List ℕ)
+strict_reserved_words = codes "implements" ∷ codes "interface" ∷ codes "let" ∷ codes "package" ∷ codes "private" ∷ codes "protected" ∷ codes "public" ∷ codes "static" ∷ codes "yield" ∷ []
 
 -- strict code reserves the name
-abbrev pub is_reserved : List ℕ → Bool
-is_reserved name = list_any (bytes_eq name) reserved_words
+abbrev pub is_strict_reserved : List ℕ → Bool
+is_strict_reserved name = list_any (bytes_eq name) strict_reserved_words
 
 -- why a word is reserved here
 abbrev pub reserved_because : Sight → ReservedKeywordContext
@@ -48,7 +48,7 @@ abbrev pub check_identifier : List ℕ → Span → Sight → List Diagnostic
 check_identifier name span s =
     rows_if (not s.is_ambient)
     (if bytes_eq name (codes "await") then await_rows name span s
-    else row_if (is_reserved name && is_strict s) (reserved_keyword name span (reserved_because s)))
+    else row_if (is_strict_reserved name && is_strict s) (reserved_keyword name span (reserved_because s)))
 
 -- one of the two names that strict code protects
 abbrev pub is_eval_or_arguments : List ℕ → Bool
@@ -100,12 +100,12 @@ check_binding_identifier s = rows_if (not (is_definition s)) (eval_binding_rows 
 -- ---- identifier references
 
 -- a part of an assignment target, or an update
-abbrev pub is_target : AstType → Bool
-is_target kinds.ObjectAssignmentTarget = true
-is_target kinds.ArrayAssignmentTarget = true
-is_target kinds.AssignmentTargetPropertyIdentifier = true
-is_target kinds.UpdateExpression = true
-is_target _ = false
+abbrev pub is_updated_target : AstType → Bool
+is_updated_target kinds.ObjectAssignmentTarget = true
+is_updated_target kinds.ArrayAssignmentTarget = true
+is_updated_target kinds.AssignmentTargetPropertyIdentifier = true
+is_updated_target kinds.UpdateExpression = true
+is_updated_target _ = false
 
 -- an assignment to the name itself
 abbrev pub assigns_to : List ℕ → Node → Bool
@@ -114,15 +114,15 @@ assigns_to name node =
 
 -- what stands around a name writes to it: a target, an update, or an assignment to the name
 abbrev pub writes_to : List ℕ → Node → Bool
-writes_to name node = is_target node.kind || assigns_to name node
+writes_to name node = is_updated_target node.kind || assigns_to name node
 
 -- going outward, a write comes before any member expression
-abbrev pub is_written : Sight → Bool
-is_written s = passes (λ node. not (is_member node.kind)) (find (λ node. is_member node.kind || writes_to s.node.text node) s.path)
+abbrev pub is_write_outward : Sight → Bool
+is_write_outward s = passes (λ node. not (is_member node.kind)) (find (λ node. is_member node.kind || writes_to s.node.text node) s.path)
 
 -- strict code doesn't write to `eval` and `arguments` (ECMAScript 13.1.3, 13.15.1)
 abbrev pub is_bad_write : Sight → Bool
-is_bad_write s = is_eval_or_arguments s.node.text && is_strict s && is_written s
+is_bad_write s = is_eval_or_arguments s.node.text && is_strict s && is_write_outward s
 
 -- the child is the value of a property of a class
 abbrev pub is_field_value : Node × Node → Bool

@@ -56,5 +56,5 @@ entries_in None = []
 entries_in (Some symbol) = unwrap_or symbol.redeclarations []
 
 -- the entries of the symbol of a binding identifier
-abbrev pub entries_of : Sight → Node → List Redeclaration
-entries_of s ident = entries_in (option_and_then (slice_get s.symbols) (lookup (nat_eq ident.node_id) s.declared))
+abbrev pub symbol_entries : Sight → Node → List Redeclaration
+symbol_entries s ident = entries_in (option_and_then (slice_get s.symbols) (lookup (nat_eq ident.node_id) s.declared))

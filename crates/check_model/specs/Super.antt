@@ -9,7 +9,7 @@ use Rattle.semantic_diagnostics.specs.declared.diagnostic.Diagnostic.{Diagnostic
 use Rattle.semantic_diagnostics.specs.Functions.{unexpected_super_call, unexpected_super_reference, super_without_derived_class}
 use Rattle.check_model.specs.Sight.{Sight, SeenScope, SeenClass}
 use Rattle.check_model.specs.Search.{row_if, rows_of_some, passes, first, onward, neighbours}
-use Rattle.check_model.specs.Surroundings.{parent, outward, links, node_of}
+use Rattle.check_model.specs.Surroundings.{parent, nodes_outward, links, node_by_id}
 use Rattle.semantic_kinds.specs.declared.kind.AstType.TheVariants as kinds
 use Rattle.semantic_kinds.specs.declared.role.Role.TheVariants as roles
 use Rattle.semantic_kinds.specs.declared.mark.Mark.TheVariants as mark
@@ -53,7 +53,7 @@ is_element _ = false
 
 -- each node from one id outward, as far as the node of another, with its parent
 abbrev pub links_between : Sight → ℕ → ℕ → List (Node × Node)
-links_between s from below = take_while (λ link. not (link.1.node_id == below)) (neighbours (onward (λ node. node.node_id == from) (outward s)))
+links_between s from below = take_while (λ link. not (link.1.node_id == below)) (neighbours (onward (λ node. node.node_id == from) (nodes_outward s)))
 
 -- going out from a node, the first element of the class is left through its value or its type
 abbrev pub leaves_value : Sight → ℕ → ℕ → Bool
@@ -114,7 +114,7 @@ refused_row s (Some call) = unexpected_super_call call.span
 -- a class without heritage has no constructor to call
 abbrev pub derived_rows : Sight → List SeenClass → List Diagnostic
 derived_rows s kept =
-    rows_of_some (λ class. row_if (not (has_child roles.Heritage class)) (super_without_derived_class s.node.span class.span)) (option_and_then (λ class. node_of s class.node) (first kept))
+    rows_of_some (λ class. row_if (not (has_child roles.Heritage class)) (super_without_derived_class s.node.span class.span)) (option_and_then (λ class. node_by_id s class.node) (first kept))
 
 -- what is said after the verdict
 abbrev pub verdict_rows : Sight → Verdict × List SeenClass → List Diagnostic

@@ -15,5 +15,5 @@ typed_rows for_in declarator =
     rows_if (has_child roles.Annotation declarator) (rows_of_some (λ ident. type_annotation_in_for_left ident.span for_in ∷ []) (child_of roles.Id declarator))
 
 -- the variable of a loop over something has no type (TypeScript 2404, 2483)
-abbrev pub check_for_statement_left : Node → Bool → Sight → List Diagnostic
-check_for_statement_left left for_in s = rows_if (is kinds.VariableDeclaration left) (flat_map (typed_rows for_in) (all_in roles.Declarators left))
+abbrev pub check_typed_for_statement_left : Node → Bool → Sight → List Diagnostic
+check_typed_for_statement_left left for_in s = rows_if (is kinds.VariableDeclaration left) (flat_map (typed_rows for_in) (all_in roles.Declarators left))

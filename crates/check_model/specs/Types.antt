@@ -13,7 +13,7 @@ use Rattle.semantic_diagnostics.specs.Functions.{type_predicate_only_in_return_t
 use Rattle.semantic_diagnostics.specs.Types.{jsdoc_type_in_annotation, infer_declaration_only_permitted_in_extends_clause, enum_member_must_have_initializer}
 use Rattle.check_model.specs.Sight.{Sight}
 use Rattle.check_model.specs.Search.{row_if, rows_if, rows_of_some, first, each_after, find_last}
-use Rattle.check_model.specs.Surroundings.{text_at}
+use Rattle.check_model.specs.Surroundings.{text_under}
 use Rattle.semantic_kinds.specs.declared.kind.AstType.TheVariants as kinds
 use Rattle.semantic_kinds.specs.declared.role.Role.TheVariants as roles
 use Rattle.semantic_kinds.specs.declared.mark.Mark.TheVariants as mark
@@ -31,7 +31,7 @@ is_at_start node = not (has mark.Postfix node)
 
 -- the source text without the mark
 abbrev pub unmarked_text : Sight → Node → List ℕ
-unmarked_text s node = text_at s (unmarked (is_at_start node) node.span)
+unmarked_text s node = text_under s (unmarked (is_at_start node) node.span)
 
 -- the JSDoc type and what TypeScript has for it
 abbrev pub jsdoc_rows : Sight → AstType → Node → List Diagnostic
@@ -73,12 +73,12 @@ check_ts_type_predicate s = row_if (not (is_predicate_path s.path)) (type_predic
 -- ---- infer
 
 -- the outer span holds the inner one
-abbrev pub holds : Span → Span → Bool
-holds outer inner = nat_le outer.start inner.start && nat_le inner.end outer.end
+abbrev pub span_holds : Span → Span → Bool
+span_holds outer inner = nat_le outer.start inner.start && nat_le inner.end outer.end
 
 -- a conditional type that extends something around the span
 abbrev pub extends_over : Span → Node → Bool
-extends_over span node = is kinds.TSConditionalType node && whose roles.Extends (λ extended. holds extended.span span) node
+extends_over span node = is kinds.TSConditionalType node && whose roles.Extends (λ extended. span_holds extended.span span) node
 
 -- `infer` stands in what a conditional type extends (TypeScript 1338)
 abbrev pub check_ts_infer_type : Sight → List Diagnostic

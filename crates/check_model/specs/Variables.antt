@@ -8,7 +8,7 @@ use Rattle.semantic_tree.specs.BoundNames.{bound_names}
 use Rattle.semantic_diagnostics.specs.declared.diagnostic.Diagnostic.{Diagnostic}
 use Rattle.semantic_diagnostics.specs.Names.{redeclaration, class_static_block_for_await, class_static_block_await_using}
 use Rattle.semantic_diagnostics.specs.Statements.{unexpected_initializer_in_for_loop_head, using_declaration_not_allowed_in_script}
-use Rattle.check_model.specs.Sight.{Sight, entries_of}
+use Rattle.check_model.specs.Sight.{Sight, symbol_entries}
 use Rattle.check_model.specs.Search.{row_if, rows_if, rows_of_some, only}
 use Rattle.check_model.specs.Surroundings.{is_strict, is_module, is_script, is_typescript, is_in_function, is_at_top, parent_passes, is_in_static_block}
 use Rattle.check_model.specs.Entries.{one_before_last}
@@ -58,7 +58,7 @@ lets_var_redeclare s = is_in_function s || (is_at_top s && not (is_module s))
 -- the declaration before is no function
 abbrev pub name_rows : Sight → Node → List Diagnostic
 name_rows s name =
-    rows_of_some (λ before. row_if (meets before.flags.bits symbol.Function.bits) (redeclaration name.text before.span s.node.span)) (one_before_last (entries_of s name))
+    rows_of_some (λ before. row_if (meets before.flags.bits symbol.Function.bits) (redeclaration name.text before.span s.node.span)) (one_before_last (symbol_entries s name))
 
 -- a `var` elsewhere doesn't declare a function's name again (ECMAScript 14.2.1, 16.2.1.1)
 abbrev pub check_variable_declarator_redeclaration : Sight → List Diagnostic

@@ -9,7 +9,7 @@ use Rattle.semantic_kinds.specs.declared.role.Role.TheVariants as role
 use Rattle.semantic_tree.specs.Forest.{nothing}
 use Rattle.semantic_tree.specs.Tree.{Tree}
 use Rattle.check_model.specs.DiagnosticsOf.{diagnostics_of}
-use Rattle.check_trials.specs.Write.{node, program, at, says}
+use Rattle.check_trials.specs.Write.{node, program, label_at, says}
 
 -- { function f() {} var f; }
 abbrev program_1 : Tree
@@ -31,7 +31,7 @@ program_1 = program goal.Script lang.Js (codes "{ function f() {} var f; }") 0 2
     nothing))
     nothing)
 
-told_1 : diagnostics_of true program_1 ≡ (says None (codes "Identifier `f` has already been declared") (at 11 12 (Some (codes "`f` has already been declared here")) ∷ at 22 23 (Some (codes "It can not be redeclared here")) ∷ []) None None ∷ [])
+told_1 : diagnostics_of true program_1 ≡ (says None (codes "Identifier `f` has already been declared") (label_at 11 12 (Some (codes "`f` has already been declared here")) ∷ label_at 22 23 (Some (codes "It can not be redeclared here")) ∷ []) None None ∷ [])
 unfolding encode chars
 told_1 = refl
 
@@ -59,7 +59,7 @@ program_2 = program goal.Script lang.Js (codes "'use strict'; { function f() {} 
     nothing))
     nothing))
 
-told_2 : diagnostics_of true program_2 ≡ (says None (codes "Identifier `f` has already been declared") (at 25 26 (Some (codes "`f` has already been declared here")) ∷ at 36 37 (Some (codes "It can not be redeclared here")) ∷ []) None None ∷ [])
+told_2 : diagnostics_of true program_2 ≡ (says None (codes "Identifier `f` has already been declared") (label_at 25 26 (Some (codes "`f` has already been declared here")) ∷ label_at 36 37 (Some (codes "It can not be redeclared here")) ∷ []) None None ∷ [])
 unfolding encode chars
 told_2 = refl
 
@@ -111,7 +111,7 @@ program_4 = program goal.Script lang.Js (codes "{ async function f() {} function
     nothing))
     nothing)
 
-told_4 : diagnostics_of true program_4 ≡ (says None (codes "Identifier `f` has already been declared") (at 17 18 (Some (codes "`f` has already been declared here")) ∷ at 33 34 (Some (codes "It can not be redeclared here")) ∷ []) None None ∷ [])
+told_4 : diagnostics_of true program_4 ≡ (says None (codes "Identifier `f` has already been declared") (label_at 17 18 (Some (codes "`f` has already been declared here")) ∷ label_at 33 34 (Some (codes "It can not be redeclared here")) ∷ []) None None ∷ [])
 unfolding encode chars
 told_4 = refl
 
@@ -141,7 +141,7 @@ program_5 = program goal.Script lang.Js (codes "'use strict'; { function f() {} 
     nothing))
     nothing))
 
-told_5 : diagnostics_of true program_5 ≡ (says None (codes "Identifier `f` has already been declared") (at 25 26 (Some (codes "`f` has already been declared here")) ∷ at 41 42 (Some (codes "It can not be redeclared here")) ∷ []) None None ∷ [])
+told_5 : diagnostics_of true program_5 ≡ (says None (codes "Identifier `f` has already been declared") (label_at 25 26 (Some (codes "`f` has already been declared here")) ∷ label_at 41 42 (Some (codes "It can not be redeclared here")) ∷ []) None None ∷ [])
 unfolding encode chars
 told_5 = refl
 
@@ -165,7 +165,7 @@ program_6 = program goal.Module lang.Js (codes "function f() {} function f() {}"
     nothing)))
     nothing))
 
-told_6 : diagnostics_of true program_6 ≡ (says None (codes "Identifier `f` has already been declared") (at 9 10 (Some (codes "`f` has already been declared here")) ∷ at 25 26 (Some (codes "It can not be redeclared here")) ∷ []) None None ∷ [])
+told_6 : diagnostics_of true program_6 ≡ (says None (codes "Identifier `f` has already been declared") (label_at 9 10 (Some (codes "`f` has already been declared here")) ∷ label_at 25 26 (Some (codes "It can not be redeclared here")) ∷ []) None None ∷ [])
 unfolding encode chars
 told_6 = refl
 
@@ -187,7 +187,7 @@ program_7 = program goal.Script lang.Js (codes "function f() {} class f {}") 0 2
     nothing))
     nothing))
 
-told_7 : diagnostics_of true program_7 ≡ (says None (codes "Identifier `f` has already been declared") (at 9 10 (Some (codes "`f` has already been declared here")) ∷ at 22 23 (Some (codes "It can not be redeclared here")) ∷ []) None None ∷ [])
+told_7 : diagnostics_of true program_7 ≡ (says None (codes "Identifier `f` has already been declared") (label_at 9 10 (Some (codes "`f` has already been declared here")) ∷ label_at 22 23 (Some (codes "It can not be redeclared here")) ∷ []) None None ∷ [])
 unfolding encode chars
 told_7 = refl
 
@@ -209,11 +209,11 @@ program_8 = program goal.Script lang.Js (codes "let f; function f() {}") 0 22 (n
     nothing)))
     nothing))
 
-told_8 : diagnostics_of true program_8 ≡ (says None (codes "Identifier `f` has already been declared") (at 4 5 (Some (codes "`f` has already been declared here")) ∷ at 16 17 (Some (codes "It can not be redeclared here")) ∷ []) None None ∷ [])
+told_8 : diagnostics_of true program_8 ≡ (says None (codes "Identifier `f` has already been declared") (label_at 4 5 (Some (codes "`f` has already been declared here")) ∷ label_at 16 17 (Some (codes "It can not be redeclared here")) ∷ []) None None ∷ [])
 unfolding encode chars
 told_8 = refl
 
-told_unchecked_8 : diagnostics_of false program_8 ≡ (says None (codes "Identifier `f` has already been declared") (at 4 5 (Some (codes "`f` has already been declared here")) ∷ at 16 17 (Some (codes "It can not be redeclared here")) ∷ []) None None ∷ [])
+told_unchecked_8 : diagnostics_of false program_8 ≡ (says None (codes "Identifier `f` has already been declared") (label_at 4 5 (Some (codes "`f` has already been declared here")) ∷ label_at 16 17 (Some (codes "It can not be redeclared here")) ∷ []) None None ∷ [])
 unfolding encode chars
 told_unchecked_8 = refl
 
@@ -243,7 +243,7 @@ program_9 = program goal.Script lang.Ts (codes "type T = (a, a) => T") 0 20 (nod
     nothing))
     nothing)
 
-told_9 : diagnostics_of true program_9 ≡ (says None (codes "Identifier `a` has already been declared") (at 10 11 (Some (codes "`a` has already been declared here")) ∷ at 13 14 (Some (codes "It can not be redeclared here")) ∷ []) None None ∷ [])
+told_9 : diagnostics_of true program_9 ≡ (says None (codes "Identifier `a` has already been declared") (label_at 10 11 (Some (codes "`a` has already been declared here")) ∷ label_at 13 14 (Some (codes "It can not be redeclared here")) ∷ []) None None ∷ [])
 unfolding encode chars
 told_9 = refl
 
@@ -283,10 +283,10 @@ program_10 = program goal.Script lang.Js (codes "function f(a, a) {} (a, a) => {
     nothing)
     nothing))
 
-told_10 : diagnostics_of true program_10 ≡ (says None (codes "Identifier `a` has already been declared") (at 21 22 (Some (codes "`a` has already been declared here")) ∷ at 24 25 (Some (codes "It can not be redeclared here")) ∷ []) None None ∷ [])
+told_10 : diagnostics_of true program_10 ≡ (says None (codes "Identifier `a` has already been declared") (label_at 21 22 (Some (codes "`a` has already been declared here")) ∷ label_at 24 25 (Some (codes "It can not be redeclared here")) ∷ []) None None ∷ [])
 unfolding encode chars
 told_10 = refl
 
-told_unchecked_10 : diagnostics_of false program_10 ≡ (says None (codes "Identifier `a` has already been declared") (at 21 22 (Some (codes "`a` has already been declared here")) ∷ at 24 25 (Some (codes "It can not be redeclared here")) ∷ []) None None ∷ [])
+told_unchecked_10 : diagnostics_of false program_10 ≡ (says None (codes "Identifier `a` has already been declared") (label_at 21 22 (Some (codes "`a` has already been declared here")) ∷ label_at 24 25 (Some (codes "It can not be redeclared here")) ∷ []) None None ∷ [])
 unfolding encode chars
 told_unchecked_10 = refl

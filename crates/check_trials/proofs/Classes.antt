@@ -9,7 +9,7 @@ use Rattle.semantic_kinds.specs.declared.role.Role.TheVariants as role
 use Rattle.semantic_tree.specs.Forest.{nothing}
 use Rattle.semantic_tree.specs.Tree.{Tree}
 use Rattle.check_model.specs.DiagnosticsOf.{diagnostics_of}
-use Rattle.check_trials.specs.Write.{node, program, at, says}
+use Rattle.check_trials.specs.Write.{node, program, label_at, says}
 
 -- class {}
 abbrev program_1 : Tree
@@ -19,7 +19,7 @@ program_1 = program goal.Script lang.Js (codes "class {}") 0 8 (node role.Body k
     nothing)
     nothing)
 
-told_1 : diagnostics_of true program_1 ≡ (says None (codes "A class name is required.") (at 0 5 None ∷ []) None None ∷ [])
+told_1 : diagnostics_of true program_1 ≡ (says None (codes "A class name is required.") (label_at 0 5 None ∷ []) None None ∷ [])
 unfolding encode chars
 told_1 = refl
 
@@ -63,7 +63,7 @@ program_2 = program goal.Script lang.Js (codes "class C { constructor() {} const
     nothing))
     nothing)
 
-told_2 : diagnostics_of true program_2 ≡ (says None (codes "Multiple constructor implementations are not allowed.") (at 10 21 (Some (codes "constructor has already been declared here")) ∷ at 27 38 (Some (codes "it cannot be redeclared here")) ∷ []) None None ∷ [])
+told_2 : diagnostics_of true program_2 ≡ (says None (codes "Multiple constructor implementations are not allowed.") (label_at 10 21 (Some (codes "constructor has already been declared here")) ∷ label_at 27 38 (Some (codes "it cannot be redeclared here")) ∷ []) None None ∷ [])
 unfolding encode chars
 told_2 = refl
 
@@ -123,7 +123,7 @@ program_3 = program goal.Script lang.Ts (codes "class C { #a; static #a; #b() {}
     nothing))
     nothing)
 
-told_3 : diagnostics_of true program_3 ≡ (says (Some (codes "TS(2804)")) (codes "Duplicate identifier `#a`. Static and instance elements cannot share the same private name.") (at 10 12 (Some (codes "`#a` has already been declared here")) ∷ at 21 23 (Some (codes "It can not be redeclared here")) ∷ []) None None ∷ says None (codes "Identifier `#c` has already been declared") (at 37 39 (Some (codes "`#c` has already been declared here")) ∷ at 58 60 (Some (codes "It can not be redeclared here")) ∷ []) None None ∷ [])
+told_3 : diagnostics_of true program_3 ≡ (says (Some (codes "TS(2804)")) (codes "Duplicate identifier `#a`. Static and instance elements cannot share the same private name.") (label_at 10 12 (Some (codes "`#a` has already been declared here")) ∷ label_at 21 23 (Some (codes "It can not be redeclared here")) ∷ []) None None ∷ says None (codes "Identifier `#c` has already been declared") (label_at 37 39 (Some (codes "`#c` has already been declared here")) ∷ label_at 58 60 (Some (codes "It can not be redeclared here")) ∷ []) None None ∷ [])
 unfolding encode chars
 told_3 = refl
 
@@ -179,7 +179,7 @@ program_5 = program goal.Script lang.Ts (codes "class C { a; a() {} }") 0 21 (no
     nothing))
     nothing)
 
-told_5 : diagnostics_of true program_5 ≡ (says None (codes "Identifier `a` has already been declared") (at 10 11 (Some (codes "`a` has already been declared here")) ∷ at 13 14 (Some (codes "It can not be redeclared here")) ∷ []) None None ∷ [])
+told_5 : diagnostics_of true program_5 ≡ (says None (codes "Identifier `a` has already been declared") (label_at 10 11 (Some (codes "`a` has already been declared here")) ∷ label_at 13 14 (Some (codes "It can not be redeclared here")) ∷ []) None None ∷ [])
 unfolding encode chars
 told_5 = refl
 
@@ -271,7 +271,7 @@ program_6 = program goal.Script lang.Ts (codes "class C { a(); a() {} b(); c(); 
     nothing))
     nothing)
 
-told_6 : diagnostics_of true program_6 ≡ (says (Some (codes "TS(2391)")) (codes "Function implementation is missing or not immediately following the declaration.") (at 22 23 None ∷ []) None None ∷ says (Some (codes "TS(2391)")) (codes "Function implementation is missing or not immediately following the declaration.") (at 27 28 None ∷ []) None None ∷ says (Some (codes "TS(2390)")) (codes "Constructor implementation is missing.") (at 39 50 None ∷ []) None None ∷ says (Some (codes "TS(2391)")) (codes "Function implementation is missing or not immediately following the declaration.") (at 62 63 None ∷ []) None None ∷ [])
+told_6 : diagnostics_of true program_6 ≡ (says (Some (codes "TS(2391)")) (codes "Function implementation is missing or not immediately following the declaration.") (label_at 22 23 None ∷ []) None None ∷ says (Some (codes "TS(2391)")) (codes "Function implementation is missing or not immediately following the declaration.") (label_at 27 28 None ∷ []) None None ∷ says (Some (codes "TS(2390)")) (codes "Constructor implementation is missing.") (label_at 39 50 None ∷ []) None None ∷ says (Some (codes "TS(2391)")) (codes "Function implementation is missing or not immediately following the declaration.") (label_at 62 63 None ∷ []) None None ∷ [])
 unfolding encode chars
 told_6 = refl
 
@@ -309,7 +309,7 @@ program_7 = program goal.Script lang.Ts (codes "class C { constructor(public a);
     nothing))
     nothing)
 
-told_7 : diagnostics_of true program_7 ≡ (says (Some (codes "TS(2369)")) (codes "A parameter property is only allowed in a constructor implementation.") (at 22 30 None ∷ []) None None ∷ says None (codes "Getters and setters must have an implementation.") (at 37 38 None ∷ []) None None ∷ says (Some (codes "TS(1253)")) (codes "Abstract properties can only appear within an abstract class.") (at 51 52 None ∷ []) None None ∷ says (Some (codes "TS(2390)")) (codes "Constructor implementation is missing.") (at 10 21 None ∷ []) None None ∷ says (Some (codes "TS(2391)")) (codes "Function implementation is missing or not immediately following the declaration.") (at 37 38 None ∷ []) None None ∷ [])
+told_7 : diagnostics_of true program_7 ≡ (says (Some (codes "TS(2369)")) (codes "A parameter property is only allowed in a constructor implementation.") (label_at 22 30 None ∷ []) None None ∷ says None (codes "Getters and setters must have an implementation.") (label_at 37 38 None ∷ []) None None ∷ says (Some (codes "TS(1253)")) (codes "Abstract properties can only appear within an abstract class.") (label_at 51 52 None ∷ []) None None ∷ says (Some (codes "TS(2390)")) (codes "Constructor implementation is missing.") (label_at 10 21 None ∷ []) None None ∷ says (Some (codes "TS(2391)")) (codes "Function implementation is missing or not immediately following the declaration.") (label_at 37 38 None ∷ []) None None ∷ [])
 unfolding encode chars
 told_7 = refl
 
@@ -353,7 +353,7 @@ program_8 = program goal.Script lang.Js (codes "class C { #x; y = delete a.#x; z
     nothing))
     nothing)
 
-told_8 : diagnostics_of true program_8 ≡ (says None (codes "The operand of a 'delete' operator cannot be a private identifier.") (at 25 29 None ∷ []) None None ∷ says None (codes "The operand of a 'delete' operator cannot be a private identifier.") (at 45 47 None ∷ []) None None ∷ [])
+told_8 : diagnostics_of true program_8 ≡ (says None (codes "The operand of a 'delete' operator cannot be a private identifier.") (label_at 25 29 None ∷ []) None None ∷ says None (codes "The operand of a 'delete' operator cannot be a private identifier.") (label_at 45 47 None ∷ []) None None ∷ [])
 unfolding encode chars
 told_8 = refl
 
@@ -389,7 +389,7 @@ program_9 = program goal.Script lang.Js (codes "class C { #x; m() { #y in this }
     nothing))
     nothing)
 
-told_9 : diagnostics_of true program_9 ≡ (says None (codes "Private field '#y' must be declared in an enclosing class") (at 20 22 None ∷ []) None None ∷ [])
+told_9 : diagnostics_of true program_9 ≡ (says None (codes "Private field '#y' must be declared in an enclosing class") (label_at 20 22 None ∷ []) None None ∷ [])
 unfolding encode chars
 told_9 = refl
 
@@ -411,6 +411,6 @@ program_10 = program goal.Script lang.Ts (codes "class C { abstract m(): void; }
     nothing))
     nothing)
 
-told_10 : diagnostics_of true program_10 ≡ (says (Some (codes "TS(1244)")) (codes "Abstract methods can only appear within an abstract class.") (at 19 20 None ∷ []) None None ∷ [])
+told_10 : diagnostics_of true program_10 ≡ (says (Some (codes "TS(1244)")) (codes "Abstract methods can only appear within an abstract class.") (label_at 19 20 None ∷ []) None None ∷ [])
 unfolding encode chars
 told_10 = refl

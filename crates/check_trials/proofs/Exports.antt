@@ -9,7 +9,7 @@ use Rattle.semantic_kinds.specs.declared.role.Role.TheVariants as role
 use Rattle.semantic_tree.specs.Forest.{nothing}
 use Rattle.semantic_tree.specs.Tree.{Tree}
 use Rattle.check_model.specs.DiagnosticsOf.{diagnostics_of}
-use Rattle.check_trials.specs.Write.{node, program, at, says}
+use Rattle.check_trials.specs.Write.{node, program, label_at, says}
 
 -- export { a, b }; let a;
 abbrev program_1 : Tree
@@ -35,7 +35,7 @@ program_1 = program goal.Module lang.Js (codes "export { a, b }; let a;") 0 23 (
     nothing)
     nothing))
 
-told_1 : diagnostics_of true program_1 ≡ (says None (codes "Export 'b' is not defined") (at 12 13 None ∷ []) None None ∷ [])
+told_1 : diagnostics_of true program_1 ≡ (says None (codes "Export 'b' is not defined") (label_at 12 13 None ∷ []) None None ∷ [])
 unfolding encode chars
 told_1 = refl
 
@@ -57,7 +57,7 @@ program_2 = program goal.Module lang.Js (codes "import a from 'm'; let a;") 0 25
     nothing)
     nothing))
 
-told_2 : diagnostics_of true program_2 ≡ (says None (codes "Identifier `a` has already been declared") (at 7 8 (Some (codes "`a` has already been declared here")) ∷ at 23 24 (Some (codes "It can not be redeclared here")) ∷ []) None None ∷ [])
+told_2 : diagnostics_of true program_2 ≡ (says None (codes "Identifier `a` has already been declared") (label_at 7 8 (Some (codes "`a` has already been declared here")) ∷ label_at 23 24 (Some (codes "It can not be redeclared here")) ∷ []) None None ∷ [])
 unfolding encode chars
 told_2 = refl
 
@@ -73,7 +73,7 @@ program_3 = program goal.Module lang.Ts (codes "export = a; export default a;") 
     nothing)
     nothing))
 
-told_3 : diagnostics_of true program_3 ≡ (says (Some (codes "TS(2309)")) (codes "An export assignment cannot be used in a module with other exported elements") (at 0 11 None ∷ []) (Some (codes "If you want to use `export =`, remove other `export`s and put all of them to the right hand value of `export =`. If you want to use `export`s, remove `export =` statement.")) None ∷ [])
+told_3 : diagnostics_of true program_3 ≡ (says (Some (codes "TS(2309)")) (codes "An export assignment cannot be used in a module with other exported elements") (label_at 0 11 None ∷ []) (Some (codes "If you want to use `export =`, remove other `export`s and put all of them to the right hand value of `export =`. If you want to use `export`s, remove `export =` statement.")) None ∷ [])
 unfolding encode chars
 told_3 = refl
 
@@ -93,7 +93,7 @@ program_4 = program goal.Module lang.Js (codes "export { a }; export default b;"
     nothing)
     nothing))
 
-told_4 : diagnostics_of true program_4 ≡ (says None (codes "Export 'a' is not defined") (at 9 10 None ∷ []) None None ∷ [])
+told_4 : diagnostics_of true program_4 ≡ (says None (codes "Export 'a' is not defined") (label_at 9 10 None ∷ []) None None ∷ [])
 unfolding encode chars
 told_4 = refl
 
@@ -121,6 +121,6 @@ program_5 = program goal.Script lang.Ts (codes "namespace N { export = a; export
     nothing))
     nothing)
 
-told_5 : diagnostics_of true program_5 ≡ (says (Some (codes "TS(2309)")) (codes "An export assignment cannot be used in a module with other exported elements") (at 14 25 None ∷ []) (Some (codes "If you want to use `export =`, remove other `export`s and put all of them to the right hand value of `export =`. If you want to use `export`s, remove `export =` statement.")) None ∷ [])
+told_5 : diagnostics_of true program_5 ≡ (says (Some (codes "TS(2309)")) (codes "An export assignment cannot be used in a module with other exported elements") (label_at 14 25 None ∷ []) (Some (codes "If you want to use `export =`, remove other `export`s and put all of them to the right hand value of `export =`. If you want to use `export`s, remove `export =` statement.")) None ∷ [])
 unfolding encode chars
 told_5 = refl

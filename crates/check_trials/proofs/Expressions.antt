@@ -9,7 +9,7 @@ use Rattle.semantic_kinds.specs.declared.role.Role.TheVariants as role
 use Rattle.semantic_tree.specs.Forest.{nothing}
 use Rattle.semantic_tree.specs.Tree.{Tree}
 use Rattle.check_model.specs.DiagnosticsOf.{diagnostics_of}
-use Rattle.check_trials.specs.Write.{node, program, at, says}
+use Rattle.check_trials.specs.Write.{node, program, label_at, says}
 
 -- ({ '__proto__': 1, '__proto__': 1, '__proto__': 1 })
 abbrev program_1 : Tree
@@ -39,7 +39,7 @@ program_1 = program goal.Script lang.Js (codes "({ '__proto__': 1, '__proto__': 
     nothing)
     nothing)
 
-told_1 : diagnostics_of true program_1 ≡ (says None (codes "Identifier `__proto__` has already been declared") (at 3 14 (Some (codes "`__proto__` has already been declared here")) ∷ at 19 30 (Some (codes "It can not be redeclared here")) ∷ []) None None ∷ says None (codes "Identifier `__proto__` has already been declared") (at 19 30 (Some (codes "`__proto__` has already been declared here")) ∷ at 35 46 (Some (codes "It can not be redeclared here")) ∷ []) None None ∷ [])
+told_1 : diagnostics_of true program_1 ≡ (says None (codes "Identifier `__proto__` has already been declared") (label_at 3 14 (Some (codes "`__proto__` has already been declared here")) ∷ label_at 19 30 (Some (codes "It can not be redeclared here")) ∷ []) None None ∷ says None (codes "Identifier `__proto__` has already been declared") (label_at 19 30 (Some (codes "`__proto__` has already been declared here")) ∷ label_at 35 46 (Some (codes "It can not be redeclared here")) ∷ []) None None ∷ [])
 unfolding encode chars
 told_1 = refl
 
@@ -95,7 +95,7 @@ program_3 = program goal.Script lang.Js (codes "\"use strict\"; delete (a); dele
     nothing)
     nothing)))
 
-told_3 : diagnostics_of true program_3 ≡ (says None (codes "Delete of an unqualified identifier in strict mode.") (at 22 23 None ∷ []) None None ∷ [])
+told_3 : diagnostics_of true program_3 ≡ (says None (codes "Delete of an unqualified identifier in strict mode.") (label_at 22 23 None ∷ []) None None ∷ [])
 unfolding encode chars
 told_3 = refl
 
@@ -125,7 +125,7 @@ program_4 = program goal.Script lang.Js (codes "async function f(a = await b) { 
     nothing)))
     nothing)
 
-told_4 : diagnostics_of true program_4 ≡ (says None (codes "await expression not allowed in formal parameter") (at 21 28 (Some (codes "await expression not allowed in formal parameter")) ∷ []) None None ∷ [])
+told_4 : diagnostics_of true program_4 ≡ (says None (codes "await expression not allowed in formal parameter") (label_at 21 28 (Some (codes "await expression not allowed in formal parameter")) ∷ []) None None ∷ [])
 unfolding encode chars
 told_4 = refl
 
@@ -147,6 +147,6 @@ program_5 = program goal.Script lang.Js (codes "class C { static { await b } }")
     nothing))
     nothing)
 
-told_5 : diagnostics_of true program_5 ≡ (says None (codes "Cannot use await in class static initialization block") (at 19 24 None ∷ []) None None ∷ [])
+told_5 : diagnostics_of true program_5 ≡ (says None (codes "Cannot use await in class static initialization block") (label_at 19 24 None ∷ []) None None ∷ [])
 unfolding encode chars
 told_5 = refl

@@ -9,7 +9,7 @@ use Rattle.semantic_kinds.specs.declared.role.Role.TheVariants as role
 use Rattle.semantic_tree.specs.Forest.{nothing}
 use Rattle.semantic_tree.specs.Tree.{Tree}
 use Rattle.check_model.specs.DiagnosticsOf.{diagnostics_of}
-use Rattle.check_trials.specs.Write.{node, program, at, says}
+use Rattle.check_trials.specs.Write.{node, program, label_at, says}
 
 -- a: a: ;
 abbrev program_1 : Tree
@@ -25,7 +25,7 @@ program_1 = program goal.Script lang.Js (codes "a: a: ;") 0 7 (node role.Body ki
     nothing))
     nothing)
 
-told_1 : diagnostics_of true program_1 ≡ (says None (codes "Label `a` has already been declared") (at 0 1 (Some (codes "`a` has already been declared here")) ∷ at 3 4 (Some (codes "It can not be redeclared here")) ∷ []) None None ∷ [])
+told_1 : diagnostics_of true program_1 ≡ (says None (codes "Label `a` has already been declared") (label_at 0 1 (Some (codes "`a` has already been declared here")) ∷ label_at 3 4 (Some (codes "It can not be redeclared here")) ∷ []) None None ∷ [])
 unfolding encode chars
 told_1 = refl
 
@@ -43,7 +43,7 @@ program_2 = program goal.Script lang.Js (codes "a: { continue a }") 0 17 (node r
     nothing))
     nothing)
 
-told_2 : diagnostics_of true program_2 ≡ (says None (codes "A `continue` statement can only jump to a label of an enclosing `for`, `while` or `do while` statement.") (at 0 1 (Some (codes "This is an non-iteration statement")) ∷ at 14 15 (Some (codes "for this label")) ∷ []) None None ∷ [])
+told_2 : diagnostics_of true program_2 ≡ (says None (codes "A `continue` statement can only jump to a label of an enclosing `for`, `while` or `do while` statement.") (label_at 0 1 (Some (codes "This is an non-iteration statement")) ∷ label_at 14 15 (Some (codes "for this label")) ∷ []) None None ∷ [])
 unfolding encode chars
 told_2 = refl
 
@@ -93,7 +93,7 @@ program_4 = program goal.Script lang.Js (codes "break; continue; break a; switch
     nothing))
     nothing))))
 
-told_4 : diagnostics_of true program_4 ≡ (says None (codes "Illegal break statement") (at 0 6 None ∷ []) (Some (codes "A `break` statement can only be used within an enclosing iteration or switch statement.")) None ∷ says None (codes "Illegal continue statement: no surrounding iteration statement") (at 7 16 None ∷ []) (Some (codes "A `continue` statement can only be used within an enclosing `for`, `while` or `do while` ")) None ∷ says None (codes "Use of undefined label") (at 23 24 None ∷ []) None None ∷ [])
+told_4 : diagnostics_of true program_4 ≡ (says None (codes "Illegal break statement") (label_at 0 6 None ∷ []) (Some (codes "A `break` statement can only be used within an enclosing iteration or switch statement.")) None ∷ says None (codes "Illegal continue statement: no surrounding iteration statement") (label_at 7 16 None ∷ []) (Some (codes "A `continue` statement can only be used within an enclosing `for`, `while` or `do while` ")) None ∷ says None (codes "Use of undefined label") (label_at 23 24 None ∷ []) None None ∷ [])
 unfolding encode chars
 told_4 = refl
 
@@ -125,6 +125,6 @@ program_5 = program goal.Script lang.Js (codes "a: for (;;) { (function () { bre
     nothing))
     nothing)
 
-told_5 : diagnostics_of true program_5 ≡ (says None (codes "Jump target cannot cross function boundary.") (at 35 36 None ∷ []) None None ∷ [])
+told_5 : diagnostics_of true program_5 ≡ (says None (codes "Jump target cannot cross function boundary.") (label_at 35 36 None ∷ []) None None ∷ [])
 unfolding encode chars
 told_5 = refl

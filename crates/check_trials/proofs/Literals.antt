@@ -9,7 +9,7 @@ use Rattle.semantic_kinds.specs.declared.role.Role.TheVariants as role
 use Rattle.semantic_tree.specs.Forest.{nothing}
 use Rattle.semantic_tree.specs.Tree.{Tree}
 use Rattle.check_model.specs.DiagnosticsOf.{diagnostics_of}
-use Rattle.check_trials.specs.Write.{node, program, at, says}
+use Rattle.check_trials.specs.Write.{node, program, label_at, says}
 
 -- "use strict"; a = 010; a = 09; a = 0.5; a = 09.5;
 abbrev program_1 : Tree
@@ -51,7 +51,7 @@ program_1 = program goal.Script lang.Js (codes "\"use strict\"; a = 010; a = 09;
     nothing)
     nothing)))))
 
-told_1 : diagnostics_of true program_1 ≡ (says None (codes "'0'-prefixed octal literals and octal escape sequences are deprecated") (at 18 21 None ∷ []) (Some (codes "for octal literals use the '0o' prefix instead")) None ∷ says None (codes "Decimals with leading zeros are not allowed in strict mode") (at 27 29 None ∷ []) (Some (codes "remove the leading zero")) None ∷ says None (codes "Decimals with leading zeros are not allowed in strict mode") (at 44 48 None ∷ []) (Some (codes "remove the leading zero")) None ∷ [])
+told_1 : diagnostics_of true program_1 ≡ (says None (codes "'0'-prefixed octal literals and octal escape sequences are deprecated") (label_at 18 21 None ∷ []) (Some (codes "for octal literals use the '0o' prefix instead")) None ∷ says None (codes "Decimals with leading zeros are not allowed in strict mode") (label_at 27 29 None ∷ []) (Some (codes "remove the leading zero")) None ∷ says None (codes "Decimals with leading zeros are not allowed in strict mode") (label_at 44 48 None ∷ []) (Some (codes "remove the leading zero")) None ∷ [])
 unfolding encode chars
 told_1 = refl
 
@@ -71,7 +71,7 @@ program_2 = program goal.Script lang.Js (codes "\"use strict\"; a = \"\\8\"") 0 
     nothing)
     nothing))
 
-told_2 : diagnostics_of true program_2 ≡ (says None (codes "Invalid escape sequence") (at 18 22 None ∷ []) (Some (codes "\\8 and \\9 are not allowed in strict mode")) None ∷ [])
+told_2 : diagnostics_of true program_2 ≡ (says None (codes "Invalid escape sequence") (label_at 18 22 None ∷ []) (Some (codes "\\8 and \\9 are not allowed in strict mode")) None ∷ [])
 unfolding encode chars
 told_2 = refl
 
@@ -111,7 +111,7 @@ program_4 = program goal.Script lang.Js (codes "\"use strict\"; a = \"\\01\"") 0
     nothing)
     nothing))
 
-told_4 : diagnostics_of true program_4 ≡ (says None (codes "'0'-prefixed octal literals and octal escape sequences are deprecated") (at 18 23 None ∷ []) (Some (codes "for octal literals use the '0o' prefix instead")) None ∷ [])
+told_4 : diagnostics_of true program_4 ≡ (says None (codes "'0'-prefixed octal literals and octal escape sequences are deprecated") (label_at 18 23 None ∷ []) (Some (codes "for octal literals use the '0o' prefix instead")) None ∷ [])
 unfolding encode chars
 told_4 = refl
 
@@ -197,7 +197,7 @@ program_8 = program goal.Script lang.Js (codes "function f(a = 1) { 'use strict'
     nothing)))
     nothing)
 
-told_8 : diagnostics_of true program_8 ≡ (says None (codes "Illegal 'use strict' directive in function with non-simple parameter list") (at 20 32 None ∷ []) (Some (codes "Wrap this function with an IIFE with a 'use strict' directive that returns this function")) None ∷ [])
+told_8 : diagnostics_of true program_8 ≡ (says None (codes "Illegal 'use strict' directive in function with non-simple parameter list") (label_at 20 32 None ∷ []) (Some (codes "Wrap this function with an IIFE with a 'use strict' directive that returns this function")) None ∷ [])
 unfolding encode chars
 told_8 = refl
 
@@ -217,6 +217,6 @@ program_9 = program goal.Script lang.Js (codes "\"use strict\"; x = \"aaaaaaaaaa
     nothing)
     nothing))
 
-told_9 : diagnostics_of true program_9 ≡ (says None (codes "'0'-prefixed octal literals and octal escape sequences are deprecated") (at 18 38 None ∷ []) (Some (codes "for octal literals use the '0o' prefix instead")) None ∷ [])
+told_9 : diagnostics_of true program_9 ≡ (says None (codes "'0'-prefixed octal literals and octal escape sequences are deprecated") (label_at 18 38 None ∷ []) (Some (codes "for octal literals use the '0o' prefix instead")) None ∷ [])
 unfolding encode chars
 told_9 = refl

@@ -9,7 +9,7 @@ use Rattle.semantic_kinds.specs.declared.role.Role.TheVariants as role
 use Rattle.semantic_tree.specs.Forest.{nothing}
 use Rattle.semantic_tree.specs.Tree.{Tree}
 use Rattle.check_model.specs.DiagnosticsOf.{diagnostics_of}
-use Rattle.check_trials.specs.Write.{node, program, at, says}
+use Rattle.check_trials.specs.Write.{node, program, label_at, says}
 
 -- "use strict"; arguments = 1; [eval] = a; a.b = arguments;
 abbrev program_1 : Tree
@@ -49,7 +49,7 @@ program_1 = program goal.Script lang.Js (codes "\"use strict\"; arguments = 1; [
     nothing)
     nothing))))
 
-told_1 : diagnostics_of true program_1 ≡ (says None (codes "Cannot assign to 'arguments' in strict mode") (at 14 23 None ∷ []) None (Some (codes "This is strict mode code")) ∷ says None (codes "Cannot assign to 'eval' in strict mode") (at 30 34 None ∷ []) None (Some (codes "This is strict mode code")) ∷ [])
+told_1 : diagnostics_of true program_1 ≡ (says None (codes "Cannot assign to 'arguments' in strict mode") (label_at 14 23 None ∷ []) None (Some (codes "This is strict mode code")) ∷ says None (codes "Cannot assign to 'eval' in strict mode") (label_at 30 34 None ∷ []) None (Some (codes "This is strict mode code")) ∷ [])
 unfolding encode chars
 told_1 = refl
 
@@ -89,7 +89,7 @@ program_2 = program goal.Script lang.Js (codes "class C { x = arguments; static 
     nothing))
     nothing)
 
-told_2 : diagnostics_of true program_2 ≡ (says None (codes "'arguments' is not allowed in class field initializer") (at 14 23 None ∷ []) (Some (codes "Assign the 'arguments' variable to a temporary variable outside")) None ∷ says None (codes "'arguments' is not allowed in static initialization block") (at 34 43 None ∷ []) (Some (codes "Assign the 'arguments' variable to a temporary variable outside")) None ∷ [])
+told_2 : diagnostics_of true program_2 ≡ (says None (codes "'arguments' is not allowed in class field initializer") (label_at 14 23 None ∷ []) (Some (codes "Assign the 'arguments' variable to a temporary variable outside")) None ∷ says None (codes "'arguments' is not allowed in static initialization block") (label_at 34 43 None ∷ []) (Some (codes "Assign the 'arguments' variable to a temporary variable outside")) None ∷ [])
 unfolding encode chars
 told_2 = refl
 
@@ -125,7 +125,7 @@ program_4 = program goal.Script lang.Js (codes "const let = 1") 0 13 (node role.
     nothing)
     nothing)
 
-told_4 : diagnostics_of true program_4 ≡ (says None (codes "`let` cannot be declared as a variable name inside of a `const` declaration") (at 6 9 None ∷ []) None None ∷ [])
+told_4 : diagnostics_of true program_4 ≡ (says None (codes "`let` cannot be declared as a variable name inside of a `const` declaration") (label_at 6 9 None ∷ []) None None ∷ [])
 unfolding encode chars
 told_4 = refl
 
@@ -139,7 +139,7 @@ program_5 = program goal.Module lang.Js (codes "await: ;") 0 8 (node role.Body k
     nothing))
     nothing)
 
-told_5 : diagnostics_of true program_5 ≡ (says None (codes "The keyword 'await' is reserved") (at 0 5 None ∷ []) None (Some (codes "The identifier `await` is reserved in module code")) ∷ [])
+told_5 : diagnostics_of true program_5 ≡ (says None (codes "The keyword 'await' is reserved") (label_at 0 5 None ∷ []) None (Some (codes "The identifier `await` is reserved in module code")) ∷ [])
 unfolding encode chars
 told_5 = refl
 
@@ -159,7 +159,7 @@ program_6 = program goal.Script lang.Js (codes "class C { static { await } }") 0
     nothing))
     nothing)
 
-told_6 : diagnostics_of true program_6 ≡ (says None (codes "Cannot use await in class static initialization block") (at 19 24 None ∷ []) None None ∷ [])
+told_6 : diagnostics_of true program_6 ≡ (says None (codes "Cannot use await in class static initialization block") (label_at 19 24 None ∷ []) None None ∷ [])
 unfolding encode chars
 told_6 = refl
 
@@ -173,7 +173,7 @@ program_7 = program goal.Script lang.Js (codes "class public {}") 0 15 (node rol
     nothing))
     nothing)
 
-told_7 : diagnostics_of true program_7 ≡ (says None (codes "The keyword 'public' is reserved") (at 6 12 None ∷ []) None (Some (codes "Classes are always strict mode code")) ∷ [])
+told_7 : diagnostics_of true program_7 ≡ (says None (codes "The keyword 'public' is reserved") (label_at 6 12 None ∷ []) None (Some (codes "Classes are always strict mode code")) ∷ [])
 unfolding encode chars
 told_7 = refl
 
@@ -215,6 +215,6 @@ program_9 = program goal.Script lang.Js (codes "#a in b") 0 7 (node role.Body ki
     nothing)
     nothing)
 
-told_9 : diagnostics_of true program_9 ≡ (says None (codes "Private identifier '#a' is not allowed outside class bodies") (at 0 2 None ∷ []) None None ∷ [])
+told_9 : diagnostics_of true program_9 ≡ (says None (codes "Private identifier '#a' is not allowed outside class bodies") (label_at 0 2 None ∷ []) None None ∷ [])
 unfolding encode chars
 told_9 = refl

@@ -9,7 +9,7 @@ use Rattle.semantic_kinds.specs.declared.role.Role.TheVariants as role
 use Rattle.semantic_tree.specs.Forest.{nothing}
 use Rattle.semantic_tree.specs.Tree.{Tree}
 use Rattle.check_model.specs.DiagnosticsOf.{diagnostics_of}
-use Rattle.check_trials.specs.Write.{node, program, at, says}
+use Rattle.check_trials.specs.Write.{node, program, label_at, says}
 
 -- if (a) function f() {} else function g() {} while (a) function h() {}
 abbrev program_1 : Tree
@@ -47,7 +47,7 @@ program_1 = program goal.Script lang.Js (codes "if (a) function f() {} else func
     nothing))
     nothing))
 
-told_1 : diagnostics_of true program_1 ≡ (says None (codes "Invalid function declaration") (at 54 69 None ∷ []) (Some (codes "In non-strict mode code, functions can only be declared at top level, inside a block, or as the body of an if statement")) None ∷ [])
+told_1 : diagnostics_of true program_1 ≡ (says None (codes "Invalid function declaration") (label_at 54 69 None ∷ []) (Some (codes "In non-strict mode code, functions can only be declared at top level, inside a block, or as the body of an if statement")) None ∷ [])
 unfolding encode chars
 told_1 = refl
 
@@ -71,7 +71,7 @@ program_2 = program goal.Script lang.Js (codes "\"use strict\"; if (a) function 
     nothing))
     nothing))
 
-told_2 : diagnostics_of true program_2 ≡ (says None (codes "Invalid function declaration") (at 21 36 None ∷ []) (Some (codes "In strict mode code, functions can only be declared at top level or inside a block")) None ∷ [])
+told_2 : diagnostics_of true program_2 ≡ (says None (codes "Invalid function declaration") (label_at 21 36 None ∷ []) (Some (codes "In strict mode code, functions can only be declared at top level or inside a block")) None ∷ [])
 unfolding encode chars
 told_2 = refl
 
@@ -99,7 +99,7 @@ program_3 = program goal.Script lang.Js (codes "if (x) a: b: function f() {}") 0
     nothing))
     nothing)
 
-told_3 : diagnostics_of true program_3 ≡ (says None (codes "Invalid function declaration") (at 13 28 None ∷ []) (Some (codes "In non-strict mode code, functions can only be declared at top level, inside a block, or as the body of an if statement")) None ∷ [])
+told_3 : diagnostics_of true program_3 ≡ (says None (codes "Invalid function declaration") (label_at 13 28 None ∷ []) (Some (codes "In non-strict mode code, functions can only be declared at top level, inside a block, or as the body of an if statement")) None ∷ [])
 unfolding encode chars
 told_3 = refl
 
@@ -165,7 +165,7 @@ program_4 = program goal.Script lang.Js (codes "for (var a = 1 in b) {} for (var
     nothing)))
     nothing))))
 
-told_4 : diagnostics_of true program_4 ≡ (says None (codes "for-in loop variable declaration may not have an initializer") (at 29 40 None ∷ []) None None ∷ says None (codes "for-of loop variable declaration may not have an initializer") (at 79 88 None ∷ []) None None ∷ [])
+told_4 : diagnostics_of true program_4 ≡ (says None (codes "for-in loop variable declaration may not have an initializer") (label_at 29 40 None ∷ []) None None ∷ says None (codes "for-of loop variable declaration may not have an initializer") (label_at 79 88 None ∷ []) None None ∷ [])
 unfolding encode chars
 told_4 = refl
 
@@ -191,7 +191,7 @@ program_5 = program goal.Script lang.Ts (codes "for (let a: T of b) {}") 0 22 (n
     nothing)))
     nothing)
 
-told_5 : diagnostics_of true program_5 ≡ (says (Some (codes "TS(2483)")) (codes "The left-hand side of a 'for...of' statement cannot use a type annotation.") (at 9 10 None ∷ []) (Some (codes "This iterator's type will be inferred from the iterable. You can safely remove the type annotation.")) None ∷ [])
+told_5 : diagnostics_of true program_5 ≡ (says (Some (codes "TS(2483)")) (codes "The left-hand side of a 'for...of' statement cannot use a type annotation.") (label_at 9 10 None ∷ []) (Some (codes "This iterator's type will be inferred from the iterable. You can safely remove the type annotation.")) None ∷ [])
 unfolding encode chars
 told_5 = refl
 
@@ -217,7 +217,7 @@ program_6 = program goal.Script lang.Js (codes "using a = b; { using c = b; }") 
     nothing)
     nothing))
 
-told_6 : diagnostics_of true program_6 ≡ (says None (codes "'using' declarations are not allowed at the top level of a script") (at 0 12 None ∷ []) (Some (codes "Wrap this code in a block or use a module")) None ∷ [])
+told_6 : diagnostics_of true program_6 ≡ (says None (codes "'using' declarations are not allowed at the top level of a script") (label_at 0 12 None ∷ []) (Some (codes "Wrap this code in a block or use a module")) None ∷ [])
 unfolding encode chars
 told_6 = refl
 
@@ -259,7 +259,7 @@ program_7 = program goal.Script lang.Js (codes "class C { static { await using a
     nothing))
     nothing)
 
-told_7 : diagnostics_of true program_7 ≡ (says None (codes "Cannot use 'await using' in class static initialization block") (at 19 37 None ∷ []) None None ∷ [])
+told_7 : diagnostics_of true program_7 ≡ (says None (codes "Cannot use 'await using' in class static initialization block") (label_at 19 37 None ∷ []) None None ∷ [])
 unfolding encode chars
 told_7 = refl
 
@@ -277,6 +277,6 @@ program_8 = program goal.Script lang.Js (codes "\"use strict\"; with (a) {}") 0 
     nothing))
     nothing))
 
-told_8 : diagnostics_of true program_8 ≡ (says None (codes "'with' statements are not allowed") (at 14 18 None ∷ []) None None ∷ [])
+told_8 : diagnostics_of true program_8 ≡ (says None (codes "'with' statements are not allowed") (label_at 14 18 None ∷ []) None None ∷ [])
 unfolding encode chars
 told_8 = refl

@@ -9,7 +9,7 @@ use Rattle.semantic_kinds.specs.declared.role.Role.TheVariants as role
 use Rattle.semantic_tree.specs.Forest.{nothing}
 use Rattle.semantic_tree.specs.Tree.{Tree}
 use Rattle.check_model.specs.DiagnosticsOf.{diagnostics_of}
-use Rattle.check_trials.specs.Write.{node, program, at, says}
+use Rattle.check_trials.specs.Write.{node, program, label_at, says}
 
 -- super.x; super();
 abbrev program_1 : Tree
@@ -29,7 +29,7 @@ program_1 = program goal.Script lang.Js (codes "super.x; super();") 0 17 (node r
     nothing)
     nothing))
 
-told_1 : diagnostics_of true program_1 ≡ (says None (codes "'super' can only be referenced in members of derived classes or object literal expressions.") (at 0 5 None ∷ []) None None ∷ says (Some (codes "TS(2337)")) (codes "Super calls are not permitted outside constructors or in nested functions inside constructors.") (at 9 14 None ∷ []) None None ∷ [])
+told_1 : diagnostics_of true program_1 ≡ (says None (codes "'super' can only be referenced in members of derived classes or object literal expressions.") (label_at 0 5 None ∷ []) None None ∷ says (Some (codes "TS(2337)")) (codes "Super calls are not permitted outside constructors or in nested functions inside constructors.") (label_at 9 14 None ∷ []) None None ∷ [])
 unfolding encode chars
 told_1 = refl
 
@@ -73,7 +73,7 @@ program_2 = program goal.Script lang.Js (codes "class C { x = super.x; [super.x]
     nothing))
     nothing)
 
-told_2 : diagnostics_of true program_2 ≡ (says None (codes "'super' can only be referenced in members of derived classes or object literal expressions.") (at 24 29 None ∷ []) None None ∷ [])
+told_2 : diagnostics_of true program_2 ≡ (says None (codes "'super' can only be referenced in members of derived classes or object literal expressions.") (label_at 24 29 None ∷ []) None None ∷ [])
 unfolding encode chars
 told_2 = refl
 
@@ -103,7 +103,7 @@ program_3 = program goal.Script lang.Js (codes "class C { constructor() { super(
     nothing))
     nothing)
 
-told_3 : diagnostics_of true program_3 ≡ (says None (codes "'super' can only be referenced in a derived class.") (at 26 31 None ∷ at 0 37 (Some (codes "class does not have `extends`")) ∷ []) (Some (codes "either remove this super, or extend the class")) None ∷ [])
+told_3 : diagnostics_of true program_3 ≡ (says None (codes "'super' can only be referenced in a derived class.") (label_at 26 31 None ∷ label_at 0 37 (Some (codes "class does not have `extends`")) ∷ []) (Some (codes "either remove this super, or extend the class")) None ∷ [])
 unfolding encode chars
 told_3 = refl
 
@@ -163,7 +163,7 @@ program_4 = program goal.Script lang.Js (codes "class C extends B { constructor(
     nothing)))
     nothing)
 
-told_4 : diagnostics_of true program_4 ≡ (says (Some (codes "TS(2337)")) (codes "Super calls are not permitted outside constructors or in nested functions inside constructors.") (at 69 74 None ∷ []) None None ∷ [])
+told_4 : diagnostics_of true program_4 ≡ (says (Some (codes "TS(2337)")) (codes "Super calls are not permitted outside constructors or in nested functions inside constructors.") (label_at 69 74 None ∷ []) None None ∷ [])
 unfolding encode chars
 told_4 = refl
 
@@ -229,7 +229,7 @@ program_5 = program goal.Script lang.Js (codes "({ m() { super.x }, n: function 
     nothing)
     nothing)
 
-told_5 : diagnostics_of true program_5 ≡ (says None (codes "'super' can only be referenced in members of derived classes or object literal expressions.") (at 37 42 None ∷ []) None None ∷ says (Some (codes "TS(2337)")) (codes "Super calls are not permitted outside constructors or in nested functions inside constructors.") (at 58 63 None ∷ []) None None ∷ [])
+told_5 : diagnostics_of true program_5 ≡ (says None (codes "'super' can only be referenced in members of derived classes or object literal expressions.") (label_at 37 42 None ∷ []) None None ∷ says (Some (codes "TS(2337)")) (codes "Super calls are not permitted outside constructors or in nested functions inside constructors.") (label_at 58 63 None ∷ []) None None ∷ [])
 unfolding encode chars
 told_5 = refl
 

@@ -9,7 +9,7 @@ use Rattle.semantic_kinds.specs.declared.role.Role.TheVariants as role
 use Rattle.semantic_tree.specs.Forest.{nothing}
 use Rattle.semantic_tree.specs.Tree.{Tree}
 use Rattle.check_model.specs.DiagnosticsOf.{diagnostics_of}
-use Rattle.check_trials.specs.Write.{node, program, at, says}
+use Rattle.check_trials.specs.Write.{node, program, label_at, says}
 
 -- let a: ?T; let b: T!;
 abbrev program_1 : Tree
@@ -43,7 +43,7 @@ program_1 = program goal.Script lang.Ts (codes "let a: ?T; let b: T!;") 0 21 (no
     nothing)
     nothing))
 
-told_1 : diagnostics_of true program_1 ≡ (says (Some (codes "TS(17020)")) (codes "'?' at the start of a type is not valid TypeScript syntax.") (at 7 9 None ∷ []) (Some (codes "Did you mean to write 'T | null | undefined'?")) None ∷ says (Some (codes "TS(17019)")) (codes "'!' at the end of a type is not valid TypeScript syntax.") (at 18 20 None ∷ []) (Some (codes "Did you mean to write 'T'?")) None ∷ [])
+told_1 : diagnostics_of true program_1 ≡ (says (Some (codes "TS(17020)")) (codes "'?' at the start of a type is not valid TypeScript syntax.") (label_at 7 9 None ∷ []) (Some (codes "Did you mean to write 'T | null | undefined'?")) None ∷ says (Some (codes "TS(17019)")) (codes "'!' at the end of a type is not valid TypeScript syntax.") (label_at 18 20 None ∷ []) (Some (codes "Did you mean to write 'T'?")) None ∷ [])
 unfolding encode chars
 told_1 = refl
 
@@ -93,7 +93,7 @@ program_2 = program goal.Script lang.Ts (codes "function f(a): a is T {} let x: 
     nothing)
     nothing))
 
-told_2 : diagnostics_of true program_2 ≡ (says (Some (codes "TS(1228)")) (codes "A type predicate is only allowed in return type position for functions and methods.") (at 32 38 None ∷ []) None None ∷ [])
+told_2 : diagnostics_of true program_2 ≡ (says (Some (codes "TS(1228)")) (codes "A type predicate is only allowed in return type position for functions and methods.") (label_at 32 38 None ∷ []) None None ∷ [])
 unfolding encode chars
 told_2 = refl
 
@@ -115,7 +115,7 @@ program_3 = program goal.Script lang.Ts (codes "{ namespace N {} declare module 
     nothing))
     nothing)
 
-told_3 : diagnostics_of true program_3 ≡ (says (Some (codes "TS(1235)")) (codes "A namespace declaration is only allowed at the top level of a namespace or module.") (at 2 16 None ∷ []) None None ∷ says (Some (codes "TS(1234)")) (codes "An ambient module declaration is only allowed at the top level in a file.") (at 17 38 None ∷ []) None None ∷ [])
+told_3 : diagnostics_of true program_3 ≡ (says (Some (codes "TS(1235)")) (codes "A namespace declaration is only allowed at the top level of a namespace or module.") (label_at 2 16 None ∷ []) None None ∷ says (Some (codes "TS(1234)")) (codes "An ambient module declaration is only allowed at the top level in a file.") (label_at 17 38 None ∷ []) None None ∷ [])
 unfolding encode chars
 told_3 = refl
 
@@ -147,7 +147,7 @@ program_4 = program goal.Script lang.Ts (codes "namespace N { module 'm' {} } de
     nothing))
     nothing))
 
-told_4 : diagnostics_of true program_4 ≡ (says (Some (codes "TS(2435)")) (codes "Ambient modules cannot be nested in other modules or namespaces.") (at 14 27 None ∷ []) None None ∷ [])
+told_4 : diagnostics_of true program_4 ≡ (says (Some (codes "TS(2435)")) (codes "Ambient modules cannot be nested in other modules or namespaces.") (label_at 14 27 None ∷ []) None None ∷ [])
 unfolding encode chars
 told_4 = refl
 
@@ -159,7 +159,7 @@ program_5 = program goal.Script lang.Ts (codes "global {}") 0 9 (node role.Body 
     nothing)
     nothing)
 
-told_5 : diagnostics_of true program_5 ≡ (says (Some (codes "TS(2670)")) (codes "Augmentations for the global scope should have 'declare' modifier unless they appear in already ambient context.") (at 0 6 None ∷ []) None None ∷ [])
+told_5 : diagnostics_of true program_5 ≡ (says (Some (codes "TS(2670)")) (codes "Augmentations for the global scope should have 'declare' modifier unless they appear in already ambient context.") (label_at 0 6 None ∷ []) None None ∷ [])
 unfolding encode chars
 told_5 = refl
 
@@ -199,6 +199,6 @@ program_6 = program goal.Script lang.Ts (codes "enum E { A, B = 'x', C, D = (1),
     nothing))
     nothing)
 
-told_6 : diagnostics_of true program_6 ≡ (says None (codes "Enum member must have initializer.") (at 21 22 None ∷ []) None None ∷ [])
+told_6 : diagnostics_of true program_6 ≡ (says None (codes "Enum member must have initializer.") (label_at 21 22 None ∷ []) None None ∷ [])
 unfolding encode chars
 told_6 = refl

@@ -24,8 +24,8 @@ program g l source start stop below = record {
 }
 
 -- a label of a diagnostic
-abbrev pub at : ℕ → ℕ → Option (List ℕ) → Label
-at start stop text = record { span = record { start = start; end = stop }; text = text }
+abbrev pub label_at : ℕ → ℕ → Option (List ℕ) → Label
+label_at start stop text = record { span = record { start = start; end = stop }; text = text }
 
 -- a diagnostic: code, message, labels, help and note
 abbrev pub says : Option (List ℕ) → List ℕ → List Label → Option (List ℕ) → Option (List ℕ) → Diagnostic

@@ -14,10 +14,10 @@ use Rattle.semantic_model.specs.Step.{Step, entering, opening, header_ending, cl
 use Rattle.walk_model.specs.WalkState.{WalkState}
 use Rattle.walk_model.specs.Walks as walk
 use Rattle.walk_model.proofs.turns.ChildTurns.{after-append}
-use Rattle.check_model.specs.DiagnosticsOf.{told}
+use Rattle.check_model.specs.DiagnosticsOf.{conflict_diagnostic}
 use Rattle.check_model.proofs.ConflictsGrow.{More}
 use Rattle.check_walk.specs.Telling.{IsQuiet, noted_since, told_over}
-use Rattle.check_walk.specs.SoFar.{Telling, so_far, IsCounted}
+use Rattle.check_walk.specs.SoFar.{Telling, so_far, CountedAreTold}
 use Rattle.check_walk.specs.TellingAlong.{telling_past, telling_left, telling_along, making, AreUntold, telling_over}
 use Rattle.check_walk.proofs.Noting.{keeps_steps, quiet_step, leaving_step, told-append, more_so_far}
 
@@ -54,10 +54,10 @@ along-append checks source ds t [] ys = refl
 along-append checks source ds t (x ∷ xs) ys = along-append checks source ds (telling_past checks source ds t x) xs ys
 
 -- conflicts that are told stay
-grown : (t : Telling) (now : WalkState) → IsCounted t → More t.made.conflicts now.conflicts → t.counted ≤ length now.conflicts
+grown : (t : Telling) (now : WalkState) → CountedAreTold t → More t.made.conflicts now.conflicts → t.counted ≤ length now.conflicts
 grown t now c h = omega (arith, c, ap length h.is, length-append t.made.conflicts h.more)
 
-pub past_counts : (checks : Bool) (source : List ℕ) (ds : List Declaration) (t : Telling) (step : Step) → IsCounted t → IsCounted (telling_past checks source ds t step)
+pub past_counts : (checks : Bool) (source : List ℕ) (ds : List Declaration) (t : Telling) (step : Step) → CountedAreTold t → CountedAreTold (telling_past checks source ds t step)
 past_counts true source ds t (entering p) c = grown t (walk.after ds t.made (entering p)) c (keeps_steps ds t.made (entering p ∷ []))
 past_counts true source ds t (opening p s) c = grown t (walk.after ds t.made (opening p s)) c (keeps_steps ds t.made (opening p s ∷ []))
 past_counts true source ds t (header_ending p s) c = grown t (walk.after ds t.made (header_ending p s)) c (keeps_steps ds t.made (header_ending p s ∷ []))
@@ -65,12 +65,12 @@ past_counts true source ds t (closing p s) c = grown t (walk.after ds t.made (cl
 past_counts true source ds t (leaving p) c = omega arith
 past_counts false source ds t step c = grown t (walk.after ds t.made step) c (keeps_steps ds t.made (step ∷ []))
 
-pub along_counts : (checks : Bool) (source : List ℕ) (ds : List Declaration) (t : Telling) (ss : List Step) → IsCounted t → IsCounted (telling_along checks source ds t ss)
+pub along_counts : (checks : Bool) (source : List ℕ) (ds : List Declaration) (t : Telling) (ss : List Step) → CountedAreTold t → CountedAreTold (telling_along checks source ds t ss)
 along_counts checks source ds t [] c = c
 along_counts checks source ds t (s ∷ ss) c = along_counts checks source ds (telling_past checks source ds t s) ss (past_counts checks source ds t s c)
 
 -- each step tells what there is to be told of it
-pub past_tells : (checks : Bool) (source : List ℕ) (ds : List Declaration) (t : Telling) (step : Step) → IsCounted t → so_far (telling_past checks source ds t step) ≡ so_far t ++ told_over checks source ds t.made (step ∷ [])
+pub past_tells : (checks : Bool) (source : List ℕ) (ds : List Declaration) (t : Telling) (step : Step) → CountedAreTold t → so_far (telling_past checks source ds t step) ≡ so_far t ++ told_over checks source ds t.made (step ∷ [])
 past_tells true source ds t (entering p) c = quiet_step true source ds t (entering p) c tt
 past_tells true source ds t (opening p s) c = quiet_step true source ds t (opening p s) c tt
 past_tells true source ds t (header_ending p s) c = quiet_step true source ds t (header_ending p s) c tt
@@ -78,9 +78,9 @@ past_tells true source ds t (closing p s) c = quiet_step true source ds t (closi
 past_tells true source ds t (leaving p) c = leaving_step source ds t p
 past_tells false source ds t step c =
     more_so_far t (walk.after ds t.made step) c (keeps_steps ds t.made (step ∷ []))
-    ∙ ap (λ l. so_far t ++ l) (sym (append-nil (map told (noted_since t.made (walk.after ds t.made step)) ++ []) ∙ append-nil (map told (noted_since t.made (walk.after ds t.made step)))))
+    ∙ ap (λ l. so_far t ++ l) (sym (append-nil (map conflict_diagnostic (noted_since t.made (walk.after ds t.made step)) ++ []) ∙ append-nil (map conflict_diagnostic (noted_since t.made (walk.after ds t.made step)))))
 
-pub along_tells : (checks : Bool) (source : List ℕ) (ds : List Declaration) (t : Telling) (ss : List Step) → IsCounted t → so_far (telling_along checks source ds t ss) ≡ so_far t ++ told_over checks source ds t.made ss
+pub along_tells : (checks : Bool) (source : List ℕ) (ds : List Declaration) (t : Telling) (ss : List Step) → CountedAreTold t → so_far (telling_along checks source ds t ss) ≡ so_far t ++ told_over checks source ds t.made ss
 along_tells checks source ds t [] c = sym (append-nil (so_far t))
 along_tells checks source ds t (s ∷ ss) c =
     let past : Telling = telling_past checks source ds t s in

@@ -14,8 +14,8 @@ use Rattle.semantic_model.specs.Cursor.{on_entering}
 use Rattle.semantic_model.specs.ScopeKind.{opened_scope}
 use Rattle.semantic_model.specs.Step.{Step, entering, opening, leaving, header_ending, closing, opening_at, ending_after, opening_last, steps_below, root_place, steps}
 use Rattle.semantic_model.proofs.steps.Turn.{Turn, turn_at}
-use Rattle.class_table.specs.Noted.{left, noted_below, entered, begun}
-use Rattle.class_table.specs.NotedSteps.{noting, noting_all}
+use Rattle.class_table.specs.Noted.{class_left, noted_below, class_entered, begun_builder}
+use Rattle.class_table.specs.NotedSteps.{noting_step, noting_all}
 use Rattle.class_table.specs.declared.builder.ClassTableBuilder.{ClassTableBuilder}
 use Rattle.class_table.proofs.BodiesStand.{bodies_stand}
 use Rattle.class_table.proofs.NotingSteps.{all_append, steps_note, noted_classes}
@@ -35,11 +35,11 @@ LeavesRightly b (closing p s) = Unit {0}
 
 abbrev AllRightly : ClassTableBuilder → List Step → Type 0
 AllRightly b [] = Unit {0}
-AllRightly b (step ∷ more) = LeavesRightly b step × AllRightly (noting b step) more
+AllRightly b (step ∷ more) = LeavesRightly b step × AllRightly (noting_step b step) more
 
 rightly-append : (b : ClassTableBuilder) (xs ys : List Step) → AllRightly b xs → AllRightly (noting_all b xs) ys → AllRightly b (xs ++ ys)
 rightly-append b [] ys h k = k
-rightly-append b (x ∷ xs) ys h k = (h.0, rightly-append (noting b x) xs ys h.1 k)
+rightly-append b (x ∷ xs) ys h k = (h.0, rightly-append (noting_step b x) xs ys h.1 k)
 
 -- steps that leave no node and note nothing
 abbrev AreQuiet : List Step → Type 0
@@ -97,12 +97,12 @@ steps_shown nothing p own n cursor b h =
 steps_shown (tree r k span text marks below id after) p own n cursor b h =
     let here : Node = record { kind = k; span = span; text = text; marks = marks; children = below; node_id = id } in
     let parts : Turn = turn_at p own n cursor r here after in
-    let into : ClassTableBuilder = entered p.node.kind p.node.node_id here b in
+    let into : ClassTableBuilder = class_entered p.node.kind p.node.node_id here b in
     let x : ClassTableBuilder = noting_all into parts.below in
     let shape = child_comes b p r here after h in
     let under = steps_shown below parts.child None parts.next parts.inner into (comes b parts.child shape.0 shape.1 h.around) in
-    let walked : noting_all b parts.whole ≡ left k x = all_append into parts.below (leaving parts.child ∷ []) in
-    let noted : left k (noted_below k id below into) ≡ noting_all b parts.whole = ap (left k) (sym (steps_note below parts.child None parts.next parts.inner into)) ∙ sym walked in
+    let walked : noting_all b parts.whole ≡ class_left k x = all_append into parts.below (leaving parts.child ∷ []) in
+    let noted : class_left k (noted_below k id below into) ≡ noting_all b parts.whole = ap (class_left k) (sym (steps_note below parts.child None parts.next parts.inner into)) ∙ sym walked in
     let rest = steps_shown after p parts.scope parts.rest parts.past (noting_all b parts.whole) (subst (λ y. ShowsBetween y p after) noted (turns b p r here after h)) in
     let own_steps : AllRightly b parts.whole = (tt, rightly-append into parts.below (leaving parts.child ∷ []) under.0 (under.1, tt)) in (
       turn_rightly b parts.before parts.whole parts.behind parts.others (opens_quietly p r own n) (ends_quietly p r parts.scope after) own_steps rest.0,
@@ -110,23 +110,23 @@ steps_shown (tree r k span text marks below id after) p own n cursor b h =
     )
 
 -- the steps of a program
-program_shown : (p : Tree) → first_fault p ≡ None → AllRightly begun (steps p)
+program_shown : (p : Tree) → first_fault p ≡ None → AllRightly begun_builder (steps p)
 program_shown p h =
     let formed = classes_formed p h in
     let root : Place = root_place p in
     let below : List Step = steps_below root None 0 (on_entering p.root.kind 0) p.root.children in
-    let under = steps_shown p.root.children root None 0 (on_entering p.root.kind 0) begun (comes begun root formed.0 formed.1 begins) in
-    (tt, rightly-append begun below (leaving root ∷ []) under.0 (under.1, tt))
+    let under = steps_shown p.root.children root None 0 (on_entering p.root.kind 0) begun_builder (comes begun_builder root formed.0 formed.1 begins) in
+    (tt, rightly-append begun_builder below (leaving root ∷ []) under.0 (under.1, tt))
 
 at_leaving : (b : ClassTableBuilder) (xs ys : List Step) (q : Place) → AllRightly b (xs ++ leaving q ∷ ys) → ShowsClasses (noting_all b xs).classes (noting_all b xs).current_class_id q
 at_leaving b [] ys q h = h.0
-at_leaving b (x ∷ xs) ys q h = at_leaving (noting b x) xs ys q h.1
+at_leaving b (x ∷ xs) ys q h = at_leaving (noting_step b x) xs ys q h.1
 
-pub leaves_rightly : (p : Tree) → first_fault p ≡ None → (xs ys : List Step) (q : Place) → steps p ≡ xs ++ leaving q ∷ ys → ShowsClasses (noting_all begun xs).classes (noting_all begun xs).current_class_id q
-leaves_rightly p h xs ys q e = at_leaving begun xs ys q (subst (AllRightly begun) e (program_shown p h))
+pub leaves_rightly : (p : Tree) → first_fault p ≡ None → (xs ys : List Step) (q : Place) → steps p ≡ xs ++ leaving q ∷ ys → ShowsClasses (noting_all begun_builder xs).classes (noting_all begun_builder xs).current_class_id q
+leaves_rightly p h xs ys q e = at_leaving begun_builder xs ys q (subst (AllRightly begun_builder) e (program_shown p h))
 
 -- the elements of all classes, when the root is left
-pub elements_shown : (p : Tree) → first_fault p ≡ None → (noting_all begun (steps_within p)).classes.elements ≡ elements_at p.root
+pub elements_shown : (p : Tree) → first_fault p ≡ None → (noting_all begun_builder (steps_within p)).classes.elements ≡ elements_at p.root
 elements_shown p h =
-    ap (λ (b : ClassTableBuilder). b.classes.elements) (steps_note p.root.children (root_place p) None 0 (on_entering p.root.kind 0) begun ∙ noted_classes p h)
+    ap (λ (b : ClassTableBuilder). b.classes.elements) (steps_note p.root.children (root_place p) None 0 (on_entering p.root.kind 0) begun_builder ∙ noted_classes p h)
     ∙ ap (λ k. elements_if (same_kind k kind.Program) p.root) (sym (bodies_stand p h).0)

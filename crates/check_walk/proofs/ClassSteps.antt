@@ -5,7 +5,7 @@ use Rattle.std.specs.Option.{option_map_or}
 use Rattle.semantic_model.specs.Element.{Element}
 use Rattle.class_table.specs.Lists.{ClassLists, IsInside, with_class, with_use}
 use Rattle.semantic_model.specs.Class.{PrivateUse}
-use Rattle.class_table.specs.Outward.{parent_in, StandBefore, outward_within, outward_from}
+use Rattle.class_table.specs.Outward.{parent_class, StandBefore, classes_outward_within, classes_outward_from}
 use Rattle.class_table.proofs.Parents.{stand_before}
 use Rattle.class_table.proofs.Entering.{entered_outward, left_outward}
 use Rattle.check_model.specs.Context.{seen_class, classes_from}
@@ -14,15 +14,15 @@ pub map_same : {A B : Type 0} (P : A → Type 0) (f g : A → B) (xs : List A) �
 map_same P f g [] h k = refl
 map_same P f g (x ∷ xs) h k = λ i. k x h.0 i ∷ map_same P f g xs h.1 k i
 
-all_below : (ps : List (ℕ × ℕ)) (n k c : ℕ) → StandBefore ps → c < n → AllByRecursion (λ i. i < n) (outward_within k ps c)
+all_below : (ps : List (ℕ × ℕ)) (n k c : ℕ) → StandBefore ps → c < n → AllByRecursion (λ i. i < n) (classes_outward_within k ps c)
 all_below ps n zero c before l = tt
-all_below ps n (suc k) c before l = (l, by (parent_in ps c) (before c) (λ p h. all_below ps n k p before (omega (arith, h, l))))
+all_below ps n (suc k) c before l = (l, by (parent_class ps c) (before c) (λ p h. all_below ps n k p before (omega (arith, h, l))))
   where
-    by : (o : Option ℕ) → IfSome o (λ p. p < c) → ((p : ℕ) → p < c → AllByRecursion (λ i. i < n) (outward_within k ps p)) → AllByRecursion (λ i. i < n) (option_map_or (outward_within k ps) o [])
+    by : (o : Option ℕ) → IfSome o (λ p. p < c) → ((p : ℕ) → p < c → AllByRecursion (λ i. i < n) (classes_outward_within k ps p)) → AllByRecursion (λ i. i < n) (option_map_or (classes_outward_within k ps) o [])
     by None h f = tt
     by (Some p) h f = f p h
 
-pub from_below : (ps : List (ℕ × ℕ)) (n : ℕ) (current : Option ℕ) → StandBefore ps → IfSome current (λ c. c < n) → AllByRecursion (λ i. i < n) (outward_from ps current)
+pub from_below : (ps : List (ℕ × ℕ)) (n : ℕ) (current : Option ℕ) → StandBefore ps → IfSome current (λ c. c < n) → AllByRecursion (λ i. i < n) (classes_outward_from ps current)
 from_below ps n None before h = tt
 from_below ps n (Some c) before h = all_below ps n (suc c) c before h
 
@@ -47,14 +47,14 @@ body_entered lists current node es inside same before h =
     let old : StandBefore lists.parents = stand_before n lists.parents inside in
     let first : seen_class new n ≡ record { node = node; elements = es } =
     λ i. record { node = the_last lists.nodes node 0 n refl i; elements = the_last lists.elements es [] n (sym same) i } in
-    let others : map (seen_class new) (outward_from lists.parents current) ≡ classes_from lists current =
-    map_same (λ c. c < n) (seen_class new) (seen_class lists) (outward_from lists.parents current) (from_below lists.parents n current old h)
+    let others : map (seen_class new) (classes_outward_from lists.parents current) ≡ classes_from lists current =
+    map_same (λ c. c < n) (seen_class new) (seen_class lists) (classes_outward_from lists.parents current) (from_below lists.parents n current old h)
     (λ c l. λ i. record { node = before_last lists.nodes node 0 c l i; elements = before_last lists.elements es [] c (omega (arith, l, same)) i }) in
     ap (map (seen_class new)) (entered_outward lists current node es inside before h)
     ∙ (λ i. first i ∷ others i)
 
 -- once it is left, its class is taken from the front
-pub body_left : (lists : ClassLists) (c : ℕ) → StandBefore lists.parents → classes_from lists (Some c) ≡ seen_class lists c ∷ classes_from lists (parent_in lists.parents c)
+pub body_left : (lists : ClassLists) (c : ℕ) → StandBefore lists.parents → classes_from lists (Some c) ≡ seen_class lists c ∷ classes_from lists (parent_class lists.parents c)
 body_left lists c before = ap (map (seen_class lists)) (left_outward lists c before)
 
 -- a use of a private name changes none of them

@@ -26,9 +26,9 @@ use Rattle.semantic_tree.specs.KeyNames.{key_name}
 use Rattle.semantic_tree.specs.Views.{child_of}
 use Rattle.class_table.specs.Building.{with_body, with_use_under, use_in}
 use Rattle.class_table.specs.Lists.{with_class, with_use}
-use Rattle.class_table.specs.Outward.{parent_in}
+use Rattle.class_table.specs.Outward.{parent_class}
 use Rattle.semantic_model.specs.Class.{uses_under}
-use Rattle.class_table.specs.Noted.{entered, left, noted_below}
+use Rattle.class_table.specs.Noted.{class_entered, class_left, noted_below}
 use Rattle.class_table.specs.NotedSteps.{entered_under}
 use Rattle.class_table.specs.declared.builder.ClassTableBuilder.{ClassTableBuilder}
 use Rattle.check_context.specs.Sound.{HaveGoodSpans, IsInSource, AreAllSound}
@@ -119,7 +119,7 @@ module _ (source : List ℕ) where
   use_sound : (b : ClassTableBuilder) (here : Node) (parent : AstType) → AreAllSound source b.classes.elements → AreAllSound source (with_use_under b here here.node_id parent).classes.elements
   use_sound b here parent k = subst (AreAllSound source) (sym (same_elements b here parent)) k
 
-  pub under_sound : (parent : AstType) (node : ℕ) (here : Node) (b : ClassTableBuilder) → HaveGoodSpans source here.children → AreAllSound source b.classes.elements → AreAllSound source (entered parent node here b).classes.elements
+  pub under_sound : (parent : AstType) (node : ℕ) (here : Node) (b : ClassTableBuilder) → HaveGoodSpans source here.children → AreAllSound source b.classes.elements → AreAllSound source (class_entered parent node here b).classes.elements
   under_sound parent node here b h k = last (same_kind here.kind kind.ClassBody) (used (same_kind here.kind kind.PrivateIdentifier))
     where
       used : (c : Bool) → AreAllSound source (cond c (with_use_under b here here.node_id parent) b).classes.elements
@@ -135,10 +135,10 @@ module _ (source : List ℕ) where
   entered_sound [] here b h k = k
   entered_sound (parent ∷ more) here b h k = under_sound parent.kind parent.node_id here b h k
 
-  pub left_sound : (k : AstType) (b : ClassTableBuilder) → AreAllSound source b.classes.elements → AreAllSound source (left k b).classes.elements
+  pub left_sound : (k : AstType) (b : ClassTableBuilder) → AreAllSound source b.classes.elements → AreAllSound source (class_left k b).classes.elements
   left_sound k b h = by (same_kind k kind.Class) b.enabled
     where
-      by : (c on : Bool) → AreAllSound source (cond c (cond on (record b { current_class_id = option_map_or (parent_in b.classes.parents) b.current_class_id None }) b) b).classes.elements
+      by : (c on : Bool) → AreAllSound source (cond c (cond on (record b { current_class_id = option_map_or (parent_class b.classes.parents) b.current_class_id None }) b) b).classes.elements
       by true true = h
       by true false = h
       by false on = h
@@ -147,9 +147,9 @@ module _ (source : List ℕ) where
   below_sound parent node nothing b h k = k
   below_sound parent node (tree r own span text marks below id after) b h k =
       let here : Node = record { kind = own; span = span; text = text; marks = marks; children = below; node_id = id } in
-      let into : ClassTableBuilder = entered parent node here b in
+      let into : ClassTableBuilder = class_entered parent node here b in
       let inner : ClassTableBuilder = noted_below own id below into in
-      below_sound parent node after (left own inner) h.1.1 (left_sound own inner (below_sound own id below into h.1.0 (under_sound parent node here b h.1.0 k)))
+      below_sound parent node after (class_left own inner) h.1.1 (left_sound own inner (below_sound own id below into h.1.0 (under_sound parent node here b h.1.0 k)))
 
 pub program_in_source : (p : Tree) → first_fault p ≡ None → IsInSource (encode_utf8_all p.source) p.root
 program_in_source p h =

@@ -15,7 +15,7 @@ use Rattle.walk_model.specs.WalkState.{WalkState}
 use Rattle.walk_model.specs.Shown.{ShowsScope, ShowsChain}
 use Rattle.walk_model.specs.Walks.{numbers}
 use Rattle.walk_model.proofs.turns.ChainWays.{rows_chain}
-use Rattle.check_model.specs.SightOf.{seen_scope, or_own, scopes_it_stands_in, scopes_at, elements_at, elements_if, elements_in_case, uses_at, uses_if, uses_in_case, list_if, cut}
+use Rattle.check_model.specs.SightOf.{seen_scope, or_own, scopes_it_stands_in, scopes_at, elements_at, elements_if, elements_in_case, uses_at, uses_if, uses_in_case, list_if, narrowed_sight}
 use Rattle.check_model.specs.Rows.{rows_by, rows_of}
 use Rattle.check_model.specs.Sight.{Sight}
 use Rattle.check_model.proofs.Cuts.{rows_cut}
@@ -61,7 +61,7 @@ stands_somewhere p e = by p.chain e
     by (s ∷ ss) q = absurd cc
 
 -- of any node but a class body
-pub shown_cut : (c : Context) (source : List ℕ) (w : WalkState) (p : Place) → is kind.ClassBody p.node ≡ false → IsContextAt c source w p → cut p.node.kind (sight_shown p.node c) ≡ sight_in source w p
+pub shown_cut : (c : Context) (source : List ℕ) (w : WalkState) (p : Place) → is kind.ClassBody p.node ≡ false → IsContextAt c source w p → narrowed_sight p.node.kind (sight_shown p.node c) ≡ sight_in source w p
 shown_cut c source w p other h =
     let scopes : map (seen_row c.tables) (chain c.tables.scopes c.current_scope) ≡ scopes_at p =
     ap (λ t. map (seen_row t) (chain t.scopes c.current_scope)) h.tables ∙ ap (λ n. map (seen_row w.tables) (chain w.tables.scopes n)) h.current

@@ -19,9 +19,9 @@ use Rattle.walk_model.specs.Opens.{open_scope}
 use Rattle.walk_model.specs.Walks.{after, after_all, walked}
 use Rattle.walk_model.proofs.turns.RootSteps.{root_enters, root_scope, root_made, root_walked}
 use Rattle.walk_model.proofs.turns.Seats.{root_is_program}
-use Rattle.check_model.specs.DiagnosticsOf.{told, diagnostics_of}
+use Rattle.check_model.specs.DiagnosticsOf.{conflict_diagnostic, diagnostics_of}
 use Rattle.check_walk.specs.Telling.{noted_since, told_over, rows_in, steps_within}
-use Rattle.check_walk.specs.SoFar.{Telling, so_far, IsCounted}
+use Rattle.check_walk.specs.SoFar.{Telling, so_far, CountedAreTold}
 use Rattle.check_walk.specs.TellingAlong.{telling_first, telling_within, telling_whole}
 use Rattle.check_walk.proofs.Along.{past_tells, along_makes, along_counts, along_tells}
 use Rattle.check_walk.proofs.Noting.{prepares, quiet_rows, drop_all}
@@ -35,22 +35,22 @@ opens_plainly ds p e = rw e refl
 entering_told : (checks : Bool) (source : List ℕ) (ds : List Declaration) (p : Place) (ss : List Step) → p.node.kind ≡ kind.Program
     → told_over checks source ds nothing_made (entering p ∷ ss) ≡ told_over checks source ds nothing_made ss
 entering_told checks source ds p ss e =
-    ap (λ (w : WalkState). map told (noted_since nothing_made w) ++ rows_in checks source w (entering p) ++ told_over checks source ds w ss) (root_enters ds nothing_made p e)
+    ap (λ (w : WalkState). map conflict_diagnostic (noted_since nothing_made w) ++ rows_in checks source w (entering p) ++ told_over checks source ds w ss) (root_enters ds nothing_made p e)
     ∙ ap (λ (rows : List Diagnostic). rows ++ told_over checks source ds nothing_made ss) (quiet_rows checks source nothing_made (entering p) tt)
 
 -- opening its scope neither
 opening_told : (checks : Bool) (source : List ℕ) (ds : List Declaration) (p : Place) (ss : List Step) → p.node.kind ≡ kind.Program
     → told_over checks source ds nothing_made (opening p (root_scope p) ∷ ss) ≡ told_over checks source ds (root_made ds p) ss
 opening_told checks source ds p ss e =
-    ap (λ (w : WalkState). map told (noted_since nothing_made w) ++ rows_in checks source (root_made ds p) (opening p (root_scope p)) ++ told_over checks source ds (root_made ds p) ss) (opens_plainly ds p e)
+    ap (λ (w : WalkState). map conflict_diagnostic (noted_since nothing_made w) ++ rows_in checks source (root_made ds p) (opening p (root_scope p)) ++ told_over checks source ds (root_made ds p) ss) (opens_plainly ds p e)
     ∙ ap (λ (rows : List Diagnostic). rows ++ told_over checks source ds (root_made ds p) ss) (quiet_rows checks source (root_made ds p) (opening p (root_scope p)) tt)
 
 -- nor closing it
 closing_told : (checks : Bool) (source : List ℕ) (ds : List Declaration) (p : Place) (w : WalkState) → told_over checks source ds w (closing p (root_scope p) ∷ []) ≡ []
 closing_told checks source ds p w =
     let now : WalkState = after ds w (closing p (root_scope p)) in
-    ap (λ (cs : List Conflict). map told (drop (length w.conflicts) cs) ++ rows_in checks source now (closing p (root_scope p)) ++ []) (prepares w (closing p (root_scope p)))
-    ∙ ap (λ (cs : List Conflict). map told cs ++ rows_in checks source now (closing p (root_scope p)) ++ []) (drop_all w.conflicts)
+    ap (λ (cs : List Conflict). map conflict_diagnostic (drop (length w.conflicts) cs) ++ rows_in checks source now (closing p (root_scope p)) ++ []) (prepares w (closing p (root_scope p)))
+    ∙ ap (λ (cs : List Conflict). map conflict_diagnostic cs ++ rows_in checks source now (closing p (root_scope p)) ++ []) (drop_all w.conflicts)
     ∙ ap (λ (rows : List Diagnostic). rows ++ []) (quiet_rows checks source now (closing p (root_scope p)) tt)
 
 -- what is told below the root is as if its scope had been open before
@@ -79,12 +79,12 @@ whole_told checks p h e =
     let within : Telling = telling_within checks p in
     let settled : Telling = record within { made = walked p } in
     let enters : first.made ≡ root_made ds root = root_enters ds opened root is ∙ sym (opens_plainly ds root is) in
-    let nothing_yet : so_far first ≡ [] = ap (λ (w : WalkState). map told w.conflicts) (root_enters ds opened root is) in
+    let nothing_yet : so_far first ≡ [] = ap (λ (w : WalkState). map conflict_diagnostic w.conflicts) (root_enters ds opened root is) in
     let made : within.made ≡ after_all ds (root_made ds root) below = along_makes checks source ds first below ∙ ap (λ (w : WalkState). after_all ds w below) enters in
     let conflicts : (walked p).conflicts ≡ within.made.conflicts = ap (λ (w : WalkState). w.conflicts) (root_walked p is) ∙ ap (λ (w : WalkState). w.conflicts) (sym made) in
-    let counted : IsCounted within = along_counts checks source ds first below (omega arith) in
-    let counts : IsCounted settled = omega (arith, counted, ap length conflicts) in
-    let same : so_far settled ≡ so_far within = ap (λ (cs : List Conflict). within.said ++ map told (drop within.counted cs)) conflicts in
+    let counted : CountedAreTold within = along_counts checks source ds first below (omega arith) in
+    let counts : CountedAreTold settled = omega (arith, counted, ap length conflicts) in
+    let same : so_far settled ≡ so_far within = ap (λ (cs : List Conflict). within.said ++ map conflict_diagnostic (drop within.counted cs)) conflicts in
     let so_much : so_far within ≡ told_over checks source ds nothing_made (steps_within p) =
     along_tells checks source ds first below (omega arith)
     ∙ ap (λ (l : List Diagnostic). l ++ told_over checks source ds first.made below) nothing_yet
@@ -92,7 +92,7 @@ whole_told checks p h e =
     ∙ sym (below_told checks source ds root (on_entering p.root.kind 0) p.root.children is)
     ∙ sym (entering_told checks source ds root (steps_below root None 0 (on_entering p.root.kind 0) p.root.children) is) in
     let last : told_over checks source ds (walked p) (leaving root ∷ []) ≡ rows_in checks source (walked p) (leaving root) =
-    ap (λ (cs : List Conflict). map told cs ++ rows_in checks source (walked p) (leaving root) ++ []) (drop_all (walked p).conflicts) ∙ append-nil (rows_in checks source (walked p) (leaving root)) in
+    ap (λ (cs : List Conflict). map conflict_diagnostic cs ++ rows_in checks source (walked p) (leaving root) ++ []) (drop_all (walked p).conflicts) ∙ append-nil (rows_in checks source (walked p) (leaving root)) in
     past_tells checks source ds settled (leaving root) counts
     ∙ (λ i. (same ∙ so_much) i ++ last i)
     ∙ tells checks p h e

@@ -10,8 +10,8 @@ use Rattle.semantic_tree.specs.Forest.{Forest, nothing, tree}
 use Rattle.semantic_model.specs.Element.{elements_of}
 use Rattle.semantic_model.specs.Class.{Class, PrivateUse, uses_below, body_count, classes_below}
 use Rattle.class_table.specs.Lists.{ClassLists, IsInside}
-use Rattle.class_table.specs.Outward.{parent_in, StandBefore, outward_from}
-use Rattle.class_table.specs.Told.{parents_from, told}
+use Rattle.class_table.specs.Outward.{parent_class, StandBefore, classes_outward_from}
+use Rattle.class_table.specs.Told.{parents_from, lists_with}
 use Rattle.class_table.proofs.Parents.{stand_before}
 use Rattle.semantic_syntax.proofs.Every.{every-append, every-more}
 use Rattle.class_table.proofs.Entering.{outward_kept}
@@ -102,7 +102,7 @@ inside_more n m es le h = every-more (IsInside n) (IsInside m) (λ e i. (omega (
 
 -- lists with more classes
 pub told_inside : (lists : ClassLists) (current : Option ℕ) (us : List PrivateUse) (cs : List Class) → AllByRecursion (IsInside (length lists.nodes)) lists.parents → StandInside (length lists.nodes) cs
-    → AllByRecursion (IsInside (length (told lists current us cs).nodes)) (told lists current us cs).parents
+    → AllByRecursion (IsInside (length (lists_with lists current us cs).nodes)) (lists_with lists current us cs).parents
 told_inside lists current us cs h k =
     let n : ℕ = length lists.nodes in
     subst (λ m. AllByRecursion (IsInside m) (lists.parents ++ parents_from n cs)) (sym (length_told lists current us cs))
@@ -115,24 +115,24 @@ class_inside ps n parent h k = every-append (IsInside (n + 1)) ps (option_to_lis
 -- ---- those before them stay
 
 -- no class before those of a list
-none_before : (c m : ℕ) (cs : List Class) → c < m → parent_in (parents_from m cs) c ≡ None
+none_before : (c m : ℕ) (cs : List Class) → c < m → parent_class (parents_from m cs) c ≡ None
 none_before c m [] l = refl
 none_before c m (k ∷ cs) l = by k.parent (none_before c (m + 1) cs (omega arith))
   where
     other : nat_eq c m ≡ false
     other = grind arith
 
-    by : (parent : Option ℕ) → parent_in (parents_from (m + 1) cs) c ≡ None → parent_in (option_to_list (option_map (λ p. (m, p)) parent) ++ parents_from (m + 1) cs) c ≡ None
+    by : (parent : Option ℕ) → parent_class (parents_from (m + 1) cs) c ≡ None → parent_class (option_to_list (option_map (λ p. (m, p)) parent) ++ parents_from (m + 1) cs) c ≡ None
     by None later = later
-    by (Some p) later = ap (λ b. cond b (Some p) (parent_in (parents_from (m + 1) cs) c)) other ∙ later
+    by (Some p) later = ap (λ b. cond b (Some p) (parent_class (parents_from (m + 1) cs) c)) other ∙ later
 
 -- a class that is there, and those around it, whatever is told more
 pub classes_kept : (lists : ClassLists) (current : Option ℕ) (us : List PrivateUse) (cs : List Class) → AllByRecursion (IsInside (length lists.nodes)) lists.parents → length lists.elements ≡ length lists.nodes
-    → IfSome current (λ c. c < length lists.nodes) → classes_from (told lists current us cs) current ≡ classes_from lists current
+    → IfSome current (λ c. c < length lists.nodes) → classes_from (lists_with lists current us cs) current ≡ classes_from lists current
 classes_kept lists current us cs inside same h =
     let n : ℕ = length lists.nodes in
-    let more : ClassLists = told lists current us cs in
+    let more : ClassLists = lists_with lists current us cs in
     let before : StandBefore lists.parents = stand_before n lists.parents inside in
     ap (map (seen_class more)) (outward_kept n (parents_from n cs) (λ c l. none_before c n cs l) lists.parents current before h)
-    ∙ map_same (λ c. c < n) (seen_class more) (seen_class lists) (outward_from lists.parents current) (from_below lists.parents n current before h)
+    ∙ map_same (λ c. c < n) (seen_class more) (seen_class lists) (classes_outward_from lists.parents current) (from_below lists.parents n current before h)
     (λ c l. λ i. record { node = get_or_append_left lists.nodes (map (λ k. k.node) cs) 0 c l i; elements = get_or_append_left lists.elements (map (λ k. k.elements) cs) [] c (omega (arith, l, same)) i })

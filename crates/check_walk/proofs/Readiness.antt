@@ -11,7 +11,7 @@ use Rattle.semantic_tree.proofs.Preorder.{root_in_preorder}
 use Rattle.semantic_model.specs.Place.{Place}
 use Rattle.semantic_model.specs.Step.{root_place}
 use Rattle.walk_model.specs.WalkState.{WalkState}
-use Rattle.class_table.specs.Noted.{begun, entered, left, noted_below}
+use Rattle.class_table.specs.Noted.{begun_builder, class_entered, class_left, noted_below}
 use Rattle.class_table.specs.NotedSteps.{entered_under}
 use Rattle.class_table.specs.declared.builder.ClassTableBuilder.{ClassTableBuilder}
 use Rattle.check_walk.specs.Apart.{HasApart}
@@ -20,7 +20,7 @@ use Rattle.check_walk.proofs.ClassForm.{classes_formed}
 use Rattle.check_walk.proofs.Conditions.{program_in_source, under_sound, entered_sound, below_sound, left_sound}
 use Rattle.check_walk.proofs.ShownClasses.{begins, comes, turns, child_comes}
 
-pub ready_begins : (p : Tree) → first_fault p ≡ None → IsNumbered p.root → (w : WalkState) → HasApart w → IsReadyAt (encode_utf8_all p.source) w begun (root_place p)
+pub ready_begins : (p : Tree) → first_fault p ≡ None → IsNumbered p.root → (w : WalkState) → HasApart w → IsReadyAt (encode_utf8_all p.source) w begun_builder (root_place p)
 ready_begins p h e w a =
     let formed = classes_formed p h in
     record { around = begins; shape = formed.0; below = formed.1; in_source = program_in_source p h; order = root_in_preorder p.root e; apart = a; elements = tt }
@@ -46,10 +46,10 @@ module _ (source : List ℕ) (w v : WalkState) (b : ClassTableBuilder) (p : Plac
       let order : IsPreorder here = ap (λ (f : Forest). record here { children = f }) (ap (λ m. numbered (m + 1) here.children) (sym own) ∙ inner) in
       rw (is, path) (record { around = h.classes.around; shape = k.0; below = k.1; in_source = record { span = h.spans.0; below = h.spans.1.0 }; order = order; apart = a; elements = h.elements })
 
-  pub ready_behind : Left → HasApart v → IsReadyBetween source v (left here.kind (noted_below here.kind here.node_id here.children (entered p.node.kind p.node.node_id here b))) p after
+  pub ready_behind : Left → HasApart v → IsReadyBetween source v (class_left here.kind (noted_below here.kind here.node_id here.children (class_entered p.node.kind p.node.node_id here b))) p after
   ready_behind h a =
       let (inner, own, rest) = below_same h.order in
-      let into : ClassTableBuilder = entered p.node.kind p.node.node_id here b in
+      let into : ClassTableBuilder = class_entered p.node.kind p.node.node_id here b in
       let into_sound = under_sound source p.node.kind p.node.node_id here b h.spans.1.0 h.elements in
       record {
         classes = turns b p r here after h.classes;

@@ -22,9 +22,9 @@ use Rattle.semantic_model.proofs.form.Clauses.{kind_is}
 use Rattle.class_table.specs.Lists.{ClassLists, IsInside, uses_in, with_class, with_use}
 use Rattle.class_table.specs.Building.{with_body, with_use_under, use_in}
 use Rattle.class_table.specs.Bodies.{is_nothing, ends_with_body, has_no_body, end_rightly}
-use Rattle.class_table.specs.Noted.{noting_in, entered, left, noted_below, begun}
+use Rattle.class_table.specs.Noted.{noting_in, class_entered, class_left, noted_below, begun_builder}
 use Rattle.class_table.specs.NotedSteps.{entered_under}
-use Rattle.class_table.specs.Told.{told, FitCurrent, current_elements}
+use Rattle.class_table.specs.Told.{lists_with, FitCurrent, current_elements}
 use Rattle.class_table.specs.declared.builder.ClassTableBuilder.{ClassTableBuilder}
 use Rattle.class_table.proofs.Parents.{stand_before}
 use Rattle.class_table.proofs.Fitting.{fits_told, fits_class}
@@ -43,7 +43,7 @@ use Rattle.check_walk.proofs.KeptClasses.{StandInside, stand_inside, told_inside
 -- ---- a walk that is in some classes
 
 -- it begins in none
-pub begins : IsInClasses begun []
+pub begins : IsInClasses begun_builder []
 begins = record { enabled = refl; fits = fits_none; inside = tt; classes = refl }
 
 as_noting : (b : ClassTableBuilder) → b.enabled ≡ true → b ≡ noting_in b.current_class_id b.classes
@@ -51,7 +51,7 @@ as_noting b h = λ i. record b { enabled = h i }
 
 -- more is told of the current class, and of classes inside it
 told_in : (lists : ClassLists) (current : Option ℕ) (around : List SeenClass) (us : List PrivateUse) (cs : List Class) → IsInClasses (noting_in current lists) around → StandInside (length lists.nodes) cs
-    → IsInClasses (noting_in current (told lists current us cs)) around
+    → IsInClasses (noting_in current (lists_with lists current us cs)) around
 told_in lists current around us cs h k = record {
   enabled = refl;
   fits = fits_told lists current us cs h.fits;
@@ -110,7 +110,7 @@ around_own node parent above = elim (cases_Bool (is kind.ClassBody node)) [ inl 
 pub entered_in : (b : ClassTableBuilder) (path : List Node) (node : Node) → IsInClasses b (classes_around path) → IsInClasses (entered_under path node b) (classes_around (node ∷ path))
 entered_in b [] node h = h
 entered_in b (parent ∷ above) node h =
-    subst (λ l. IsInClasses (entered parent.kind parent.node_id node b) l) (sym (around_own node parent above))
+    subst (λ l. IsInClasses (class_entered parent.kind parent.node_id node b) l) (sym (around_own node parent above))
     (body_in (is kind.ClassBody node) _ (classes_around (parent ∷ above)) parent node (offered_in (is kind.PrivateIdentifier node) b (classes_around (parent ∷ above)) node parent.kind h))
 
 -- nodes are walked that are no class bodies
@@ -120,7 +120,7 @@ walked_in f parent node b around none shapes h =
     let current : Option ℕ = b.current_class_id in
     let us : List PrivateUse = uses_below (current_elements lists current) parent f in
     let cs : List Class = classes_below (length lists.nodes) current node f in
-    let noted : noted_below parent node f b ≡ noting_in current (told lists current us cs) =
+    let noted : noted_below parent node f b ≡ noting_in current (lists_with lists current us cs) =
     ap (noted_below parent node f) (as_noting b h.enabled) ∙ notes_other f (shapes_end f shapes) none parent node current lists h.fits in
     subst (λ x. IsInClasses x around) (sym noted) (told_in lists current around us cs (subst (λ x. IsInClasses x around) (as_noting b h.enabled) h) (stand_inside f (length lists.nodes) current node h.fits.there))
 
@@ -163,7 +163,7 @@ last_read (x ∷ xs) y d = last_read xs y d
 
 -- the uses of a class that was just declared
 own_uses : (lists : ClassLists) (current : Option ℕ) (node : ℕ) (es : List Element) (us : List PrivateUse) (cs : List Class) → FitCurrent lists current
-    → uses_from (told (with_class lists current node es) (Some (length lists.nodes)) us cs) (Some (length lists.nodes)) ≡ us
+    → uses_from (lists_with (with_class lists current node es) (Some (length lists.nodes)) us cs) (Some (length lists.nodes)) ≡ us
 own_uses lists current node es us cs fits =
     let n : ℕ = length lists.nodes in
     let uses : List (List PrivateUse) = lists.uses ++ [] ∷ [] in
@@ -206,7 +206,7 @@ own_role r is_class is_body c b h = by (same_role r role.Body) (rw (c, b) at h)
 
 -- a child is walked that is no class body
 turns_other : (b : ClassTableBuilder) (p : Place) (r : Role) (here : Node) (after : Forest) → same_kind here.kind kind.ClassBody ≡ false → ShowsAround b p (tree r here.kind here.span here.text here.marks here.children here.node_id after)
-    → ShowsBetween (left here.kind (noted_below here.kind here.node_id here.children (entered p.node.kind p.node.node_id here b))) p after
+    → ShowsBetween (class_left here.kind (noted_below here.kind here.node_id here.children (class_entered p.node.kind p.node.node_id here b))) p after
 turns_other b p r here after other h =
     let k : AstType = here.kind in
     let F : Forest = tree r here.kind here.span here.text here.marks here.children here.node_id after in
@@ -227,12 +227,12 @@ turns_other b p r here after other h =
     h.bodies e
     ∙ ap (λ c. cond c (here ∷ children_of role.Body after) (children_of role.Body after))
     (no_role r (is kind.Class p.node) (same_kind k kind.ClassBody) e other (and_first (has_own_role p.node.kind r k) (have_own_role p.node.kind after) roles)) in
-    between (left here.kind (noted_below here.kind here.node_id here.children (entered p.node.kind p.node.node_id here b))) p after
+    between (class_left here.kind (noted_below here.kind here.node_id here.children (class_entered p.node.kind p.node.node_id here b))) p after
     (walked_in alone p.node.kind p.node.node_id b around none formed h.around) shape (and_second (are_class_shapes here.children) (are_class_shapes after) rest) bodies
 
 -- a class body is entered in a walk that notes classes
 enters_body : (lists : ClassLists) (current : Option ℕ) (parent : AstType) (node : ℕ) (here : Node) → here.kind ≡ kind.ClassBody
-    → entered parent node here (noting_in current lists) ≡ noting_in (Some (length lists.nodes)) (with_class lists current node (elements_of here.children))
+    → class_entered parent node here (noting_in current lists) ≡ noting_in (Some (length lists.nodes)) (with_class lists current node (elements_of here.children))
 enters_body lists current parent node here is =
     let b : ClassTableBuilder = noting_in current lists in
     ap (λ k. let used : ClassTableBuilder = cond (same_kind k kind.PrivateIdentifier) (with_use_under b here here.node_id parent) b in cond (same_kind k kind.ClassBody) (with_body used here node) used) is
@@ -240,7 +240,7 @@ enters_body lists current parent node here is =
 -- the class body is walked, behind all other children of its class
 turns_body : (b : ClassTableBuilder) (p : Place) (r : Role) (here : Node) → is kind.Class p.node ≡ true → here.kind ≡ kind.ClassBody → bodies_of p.node ≡ here ∷ [] → is_class_shape here.kind here.children ≡ true → are_class_shapes here.children ≡ true
     → IsInClasses b (classes_around (p.node ∷ p.path))
-    → ShowsBetween (left here.kind (noted_below here.kind here.node_id here.children (entered p.node.kind p.node.node_id here b))) p nothing
+    → ShowsBetween (class_left here.kind (noted_below here.kind here.node_id here.children (class_entered p.node.kind p.node.node_id here b))) p nothing
 turns_body b p r here e is body shape below h =
     let lists : ClassLists = b.classes in
     let current : Option ℕ = b.current_class_id in
@@ -255,12 +255,12 @@ turns_body b p r here e is body shape below h =
     let us : List PrivateUse = uses_below (current_elements first (Some n)) here.kind f in
     let cs : List Class = classes_below (length first.nodes) (Some n) here.node_id f in
     let none : has_no_body f ≡ true = subst (λ k. end_rightly k f ≡ true) is (and_first (end_rightly here.kind f) (have_own_role here.kind f) shape) in
-    let into : entered p.node.kind pid here b ≡ noting_in (Some n) first =
-    ap (entered p.node.kind pid here) (as_noting b h.enabled) ∙ enters_body lists current p.node.kind pid here is in
-    let walked : left here.kind (noted_below here.kind here.node_id f (entered p.node.kind pid here b)) ≡ noting_in (Some n) (told first (Some n) us cs) =
-    ap (λ x. left here.kind (noted_below here.kind here.node_id f x)) into
-    ∙ ap (left here.kind) (notes_other f (shapes_end f below) none here.kind here.node_id (Some n) first own.fits)
-    ∙ ap (λ k. left k (noting_in (Some n) (told first (Some n) us cs))) is in
+    let into : class_entered p.node.kind pid here b ≡ noting_in (Some n) first =
+    ap (class_entered p.node.kind pid here) (as_noting b h.enabled) ∙ enters_body lists current p.node.kind pid here is in
+    let walked : class_left here.kind (noted_below here.kind here.node_id f (class_entered p.node.kind pid here b)) ≡ noting_in (Some n) (lists_with first (Some n) us cs) =
+    ap (λ x. class_left here.kind (noted_below here.kind here.node_id f x)) into
+    ∙ ap (class_left here.kind) (notes_other f (shapes_end f below) none here.kind here.node_id (Some n) first own.fits)
+    ∙ ap (λ k. class_left k (noting_in (Some n) (lists_with first (Some n) us cs))) is in
     let others : around ≡ classes_around p.path = around_other p.node p.path (no_class_body p.node.kind e) in
     let uses : us ≡ uses_below es kind.ClassBody f = ap (λ l. uses_below l here.kind f) (declared_elements lists current pid es h.fits) ∙ ap (λ k. uses_below es k f) is in
     subst (λ (x : ClassTableBuilder). ShowsClasses x.classes x.current_class_id p) (sym walked) (record {
@@ -280,14 +280,14 @@ class_around false after h = absurd cc
 
 -- a child is walked, and others are left
 pub turns : (b : ClassTableBuilder) (p : Place) (r : Role) (here : Node) (after : Forest) → ShowsAround b p (tree r here.kind here.span here.text here.marks here.children here.node_id after)
-    → ShowsBetween (left here.kind (noted_below here.kind here.node_id here.children (entered p.node.kind p.node.node_id here b))) p after
+    → ShowsBetween (class_left here.kind (noted_below here.kind here.node_id here.children (class_entered p.node.kind p.node.node_id here b))) p after
 turns b p r here after h = elim (cases_Bool (same_kind here.kind kind.ClassBody)) [
   | inl q ↦ with_body_last after h q
   | inr q ↦ turns_other b p r here after q h
 ]
   where
     with_body_last : (f : Forest) → ShowsAround b p (tree r here.kind here.span here.text here.marks here.children here.node_id f) → same_kind here.kind kind.ClassBody ≡ true
-        → ShowsBetween (left here.kind (noted_below here.kind here.node_id here.children (entered p.node.kind p.node.node_id here b))) p f
+        → ShowsBetween (class_left here.kind (noted_below here.kind here.node_id here.children (class_entered p.node.kind p.node.node_id here b))) p f
     with_body_last nothing k q =
         let F : Forest = tree r here.kind here.span here.text here.marks here.children here.node_id nothing in
         let ends : end_rightly p.node.kind F ≡ true = and_first (end_rightly p.node.kind F) (have_own_role p.node.kind F) k.shape in

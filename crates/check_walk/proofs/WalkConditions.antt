@@ -14,7 +14,7 @@ use Rattle.semantic_model.specs.Cursor.{on_entering}
 use Rattle.semantic_model.specs.Declaration.{Declaration}
 use Rattle.semantic_model.specs.Event.{Event, declares, takes_over, ends_header, events_of, written_declarations}
 use Rattle.semantic_tree.specs.Views.{is}
-use Rattle.semantic_model.specs.Place.{Place, OpenScope, innermost, at}
+use Rattle.semantic_model.specs.Place.{Place, OpenScope, innermost, scope_of_place}
 use Rattle.semantic_model.specs.Step.{Step, entering, opening, header_ending, closing, leaving, steps_below, root_place, steps}
 use Rattle.semantic_model.specs.TablesOf.{is_direct_eval}
 use Rattle.walk_model.specs.WalkState.{WalkState}
@@ -48,7 +48,7 @@ evals_same false o v = refl
 prepared_apart : (w : WalkState) (step : Step) → HasApart w → HasApart (prepare w step)
 prepared_apart w (entering p) h = subst (λ es. IsDistinct nat_eq (keys_of es)) (sym (evals (is_direct_eval p.node) (note_reference w p))) (refers (is kind.IdentifierReference p.node))
   where
-    evals : (b : Bool) (v : WalkState) → (cond b (add_eval v (at p)) v).nodes.references ≡ v.nodes.references
+    evals : (b : Bool) (v : WalkState) → (cond b (add_eval v (scope_of_place p)) v).nodes.references ≡ v.nodes.references
     evals true v = refl
     evals false v = refl
 
@@ -71,7 +71,7 @@ pub settled_apart : (w : WalkState) → HasApart w → HasApart (settle_rest w)
 settled_apart w h = h
 
 -- a place below the root stands in the scopes of its chain
-pub stands_inside : (t : Tables) (p : Place) → HasVar p.chain → ShowsChain t p.chain → ShowsChain t (scopes_it_stands_in p) × ((innermost (scopes_it_stands_in p)).number ≡ at p)
+pub stands_inside : (t : Tables) (p : Place) → HasVar p.chain → ShowsChain t p.chain → ShowsChain t (scopes_it_stands_in p) × ((innermost (scopes_it_stands_in p)).number ≡ scope_of_place p)
 stands_inside t p v h = by p.chain v h
   where
     by : (ss : List OpenScope) → HasVar ss → ShowsChain t ss → ShowsChain t (or_own p ss) × ((innermost (or_own p ss)).number ≡ (innermost ss).number)

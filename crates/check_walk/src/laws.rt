@@ -13,14 +13,14 @@ ghost use Rattle.semantic_tree.specs.Tree.{Tree, IsNumbered};
 ghost use Rattle.semantic_tree.specs.declared.node.Node.{Node};
 ghost use Rattle.semantic_model.specs.Declaration.{Declaration};
 ghost use Rattle.semantic_model.specs.Inside.{opens, scopes_in};
-ghost use Rattle.semantic_model.specs.Place.{Place, OpenScope, innermost, at};
+ghost use Rattle.semantic_model.specs.Place.{Place, OpenScope, innermost, scope_of_place};
 ghost use Rattle.semantic_model.specs.Step.{Step, leaving, steps, root_place, steps_of, steps_below, scope_at, next_at, child_place, cursor_past, opening_at, ending_after, opening_last};
 ghost use Rattle.semantic_syntax.specs.Tables.{Tables};
 ghost use Rattle.walk_model.specs.Settles.{settle_rest};
 ghost use Rattle.walk_model.specs.Shown.{ShowsChain, HasVar};
 ghost use Rattle.walk_model.specs.WalkState.{WalkState, nothing_made};
 ghost use Rattle.walk_model.specs.Walks.{after, after_all, walked};
-ghost use Rattle.class_table.specs.Noted.{begun, entered, left, noted_below};
+ghost use Rattle.class_table.specs.Noted.{begun_builder, class_entered, class_left, noted_below};
 ghost use Rattle.class_table.specs.NotedSteps.{entered_under, noting_all};
 ghost use Rattle.class_table.specs.declared.builder.ClassTableBuilder.{ClassTableBuilder};
 ghost use Rattle.check_model.specs.DiagnosticsOf.{diagnostics_of};
@@ -32,7 +32,7 @@ ghost use Rattle.check_walk.specs.Leaving.{IsHandedAt};
 ghost use Rattle.check_walk.specs.Ready.{IsReadyAt, IsReadyBetween};
 ghost use Rattle.check_walk.specs.Shaped.{is_class_shape, are_class_shapes};
 ghost use Rattle.check_walk.specs.Showing.{ShowsClasses, IsInClasses, ShowsAround, ShowsBetween};
-ghost use Rattle.check_walk.specs.SoFar.{Telling, so_far, IsCounted, telling};
+ghost use Rattle.check_walk.specs.SoFar.{Telling, so_far, CountedAreTold, telling};
 ghost use Rattle.check_walk.specs.Apart.{HasApart};
 ghost use Rattle.check_context.specs.Sound.{HaveGoodSpans, IsInSource, AreAllSound};
 ghost use Rattle.check_walk.specs.TellingAlong.{telling_past, telling_left, telling_along, making, telling_over, telling_whole};
@@ -56,7 +56,7 @@ pub fn lists_compose()
 /// A step that leaves no node tells what it notes, even if that is told later.
 pub fn quiet_steps_tell()
     ensures { (checks : Bool) (source : List ℕ) (ds : List Declaration) (t : Telling) (step : Step)
-        → IsCounted t → IsQuiet step →
+        → CountedAreTold t → IsQuiet step →
         so_far (record t { made = after ds t.made step })
         ≡ so_far t ++ told_over checks source ds t.made (step ∷ []) }
 {}
@@ -85,9 +85,10 @@ pub fn entries_tell_free()
 pub fn a_walk_shows_what_checks_look_at()
     ensures classes { (p : Tree) → first_fault p ≡ None → (xs ys : List Step) (q : Place)
         → steps p ≡ xs ++ leaving q ∷ ys →
-        ShowsClasses (noting_all begun xs).classes (noting_all begun xs).current_class_id q }
+        ShowsClasses (noting_all begun_builder xs).classes
+        (noting_all begun_builder xs).current_class_id q }
     ensures elements { (p : Tree) → first_fault p ≡ None
-        → (noting_all begun (steps_within p)).classes.elements ≡ elements_at p.root }
+        → (noting_all begun_builder (steps_within p)).classes.elements ≡ elements_at p.root }
 {}
 
 /// The same for each turn of a recursion over a program. A walk comes to a place in the classes around it, and between
@@ -96,7 +97,7 @@ pub fn a_recursion_shows_what_checks_look_at()
     ensures shapes { (p : Tree) → first_fault p ≡ None
         → (is_class_shape p.root.kind p.root.children ≡ true)
         × (are_class_shapes p.root.children ≡ true) }
-    ensures begins { IsInClasses begun [] }
+    ensures begins { IsInClasses begun_builder [] }
     ensures comes { (b : ClassTableBuilder) (p : Place)
         → is_class_shape p.node.kind p.node.children ≡ true
         → are_class_shapes p.node.children ≡ true → IsInClasses b (classes_around p.path) →
@@ -110,16 +111,16 @@ pub fn a_recursion_shows_what_checks_look_at()
     ensures behind { (b : ClassTableBuilder) (p : Place) (r : Role) (here : Node) (after : Forest)
         → ShowsAround b p (tree r here.kind here.span here.text here.marks here.children
         here.node_id after) →
-        ShowsBetween (left here.kind
+        ShowsBetween (class_left here.kind
         (noted_below here.kind here.node_id here.children
-        (entered p.node.kind p.node.node_id here b))) p after }
+        (class_entered p.node.kind p.node.node_id here b))) p after }
 {}
 
 /// A walker that does the steps of a list and tells on leaving each node has told in the end, with the conflicts that
 /// are left, what is told over the list. What it makes doesn't depend on checks, and with checks off it says nothing.
 pub fn a_walker_tells_along_steps()
     ensures tells { (checks : Bool) (source : List ℕ) (ds : List Declaration) (t : Telling)
-        (ss : List Step) → IsCounted t →
+        (ss : List Step) → CountedAreTold t →
         so_far (telling_along checks source ds t ss)
         ≡ so_far t ++ told_over checks source ds t.made ss }
     ensures makes { (checks : Bool) (source : List ℕ) (ds : List Declaration) (t : Telling)
@@ -132,7 +133,7 @@ pub fn a_walker_tells_along_steps()
         (p : Place) → record (telling_left checks source t p) { made = t.made }
         ≡ telling_past checks source ds t (leaving p) }
     ensures counts { (checks : Bool) (source : List ℕ) (ds : List Declaration) (t : Telling)
-        (ss : List Step) → IsCounted t → IsCounted (telling_along checks source ds t ss) }
+        (ss : List Step) → CountedAreTold t → CountedAreTold (telling_along checks source ds t ss) }
     ensures unchecked { (source : List ℕ) (ds : List Declaration) (t : Telling) (ss : List Step)
         → telling_along false source ds t ss ≡ making ds t ss }
 {}
@@ -184,7 +185,8 @@ pub fn nodes_and_elements_are_sound()
         → HaveGoodSpans source f → AreAllSound source b.classes.elements
         → AreAllSound source (noted_below k node f b).classes.elements }
     ensures leaving { (source : List ℕ) (k : AstType) (b : ClassTableBuilder)
-        → AreAllSound source b.classes.elements → AreAllSound source (left k b).classes.elements }
+        → AreAllSound source b.classes.elements
+        → AreAllSound source (class_left k b).classes.elements }
 {}
 
 /// No node has two references, whatever the walk does.
@@ -202,7 +204,7 @@ pub fn references_stay_apart()
 pub fn scopes_are_shown_where_a_place_stands()
     ensures inside { (t : Tables) (p : Place) → HasVar p.chain → ShowsChain t p.chain
         → ShowsChain t (scopes_it_stands_in p)
-        × ((innermost (scopes_it_stands_in p)).number ≡ at p) }
+        × ((innermost (scopes_it_stands_in p)).number ≡ scope_of_place p) }
     ensures root { (p : Tree) → first_fault p ≡ None
         → ShowsChain (walked p).tables (scopes_it_stands_in (root_place p)) }
 {}
@@ -211,7 +213,7 @@ pub fn scopes_are_shown_where_a_place_stands()
 /// each child, and stays behind it. Once no child is left, it is what the check of the place asks.
 pub fn a_recursion_meets_what_checks_ask()
     ensures begins { (p : Tree) → first_fault p ≡ None → IsNumbered p.root → (w : WalkState)
-        → HasApart w → IsReadyAt (encode_utf8_all p.source) w begun (root_place p) }
+        → HasApart w → IsReadyAt (encode_utf8_all p.source) w begun_builder (root_place p) }
     ensures enters { (source : List ℕ) (w v : WalkState) (b : ClassTableBuilder) (p : Place)
         → IsReadyAt source w b p → HasApart v
         → IsReadyBetween source v (entered_under p.path p.node b) p p.node.children }
@@ -226,9 +228,9 @@ pub fn a_recursion_meets_what_checks_ask()
         IsReadyBetween source w b p
         (tree r here.kind here.span here.text here.marks here.children here.node_id after)
         → HasApart v →
-        IsReadyBetween source v (left here.kind
+        IsReadyBetween source v (class_left here.kind
         (noted_below here.kind here.node_id here.children
-        (entered p.node.kind p.node.node_id here b))) p after }
+        (class_entered p.node.kind p.node.node_id here b))) p after }
 {}
 
 /// What a walk hands to a check when it leaves a node shows the rows of the walk: below the root from the scopes that

@@ -76,7 +76,7 @@ fn check_left_child(
     requires { IsContext ctx.now }
     ensures { let s = around ctx.now in
         Tells result (check_for_statement_left left.entry.node.now for_in s
-        ++ typed.check_for_statement_left left.entry.node.now for_in s) out.old out.new }
+        ++ typed.check_typed_for_statement_left left.entry.node.now for_in s) out.old out.new }
 {
     javascript::check_for_statement_left(alloc, left, for_in, ctx, out)?;
     typescript::check_for_statement_left(alloc, left, for_in, ctx, out)

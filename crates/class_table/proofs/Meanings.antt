@@ -11,7 +11,7 @@ use Rattle.semantic_syntax.specs.Tables.{Name}
 use Rattle.semantic_model.specs.Element.{Element, is_named, stands_alone, matches_from, element_ids}
 use Rattle.class_table.specs.declared.meant_names.Meaning.{Meaning}
 use Rattle.class_table.specs.declared.meant_names.Meaning.TheVariants.{Alone, Half, Both}
-use Rattle.class_table.specs.Meanings.{Key, Meant, key_eq, key_of, with_more, ids_meant, put, put_all, meanings_of}
+use Rattle.class_table.specs.Meanings.{ElementKey, NameMeaning, key_eq, key_of, with_more, ids_meant, with_meaning, put_all, meanings_of}
 
 -- equal keys
 
@@ -21,7 +21,7 @@ same_bool true false h = absurd cc
 same_bool false true h = absurd cc
 same_bool false false h = refl
 
-same_key : (k l : Key) → key_eq k l ≡ true → k ≡ l
+same_key : (k l : ElementKey) → key_eq k l ≡ true → k ≡ l
 same_key k l h =
     let parts = and_parts (bytes_eq k.0 l.0) _ h in
     λ j. ((bytes_eq-Decides k.0 l.0).0 parts.0 j, same_bool k.1 l.1 parts.1 j)
@@ -30,10 +30,10 @@ own_bool : (b : Bool) → cond b b (not b) ≡ true
 own_bool true = refl
 own_bool false = refl
 
-own_key : (k : Key) → key_eq k k ≡ true
+own_key : (k : ElementKey) → key_eq k k ≡ true
 own_key k = ap (λ b. b && cond k.1 k.1 (not k.1)) ((bytes_eq-Decides k.0 k.0).1 refl) ∙ own_bool k.1
 
-turned : (k q : Key) → key_eq k q ≡ key_eq q k
+turned : (k q : ElementKey) → key_eq k q ≡ key_eq q k
 turned k q = same_from_decides (key_eq k q) (key_eq q k) (λ h. ap (key_eq q) (same_key k q h) ∙ own_key q, λ h. ap (key_eq k) (same_key q k h) ∙ own_key k) (λ h. h, λ h. h)
 
 -- what is found after one more entry
@@ -47,7 +47,7 @@ swapped true true v w o apart = absurd (let e : true ≡ false = apart refl in c
 swapped true false v w o apart = refl
 swapped false c v w o apart = refl
 
-found_after : (ms : List Meant) (k q : Key) (v : Meaning) → lookup (key_eq q) (insert_entry key_eq ms k v) ≡ cond (key_eq k q) (Some v) (lookup (key_eq q) ms)
+found_after : (ms : List NameMeaning) (k q : ElementKey) (v : Meaning) → lookup (key_eq q) (insert_entry key_eq ms k v) ≡ cond (key_eq k q) (Some v) (lookup (key_eq q) ms)
 found_after [] k q v = ap (λ b. cond b (Some v) None) (turned q k)
 found_after (e ∷ ms) k q v = elim (cases_Bool (key_eq k e.0)) [
   | inl h ↦
@@ -63,10 +63,10 @@ found_after (e ∷ ms) k q v = elim (cases_Bool (key_eq k e.0)) [
 ]
 
 -- what the name means after one more element
-abbrev after : Option Meaning → ℕ → Key → Element → Option Meaning
+abbrev after : Option Meaning → ℕ → ElementKey → Element → Option Meaning
 after o n q e = cond (is_named q.0 q.1 e) (Some (with_more o n (stands_alone e))) o
 
-put_found : (ms : List Meant) (n : ℕ) (e : Element) (q : Key) → lookup (key_eq q) (put ms n e) ≡ after (lookup (key_eq q) ms) n q e
+put_found : (ms : List NameMeaning) (n : ℕ) (e : Element) (q : ElementKey) → lookup (key_eq q) (with_meaning ms n e) ≡ after (lookup (key_eq q) ms) n q e
 put_found ms n e q =
     found_after ms (key_of e) q (with_more (lookup (key_eq (key_of e)) ms) n (stands_alone e))
     ∙ by (key_eq (key_of e) q) (λ h. ap (λ x. lookup (key_eq x) ms) (same_key (key_of e) q h))
@@ -104,11 +104,11 @@ none_later (Some (Alone m)) = refl
 none_later (Some (Half m)) = refl
 none_later (Some (Both m k)) = refl
 
-module _ (q : Key) where
-  ids_all : (es : List Element) (n : ℕ) (ms : List Meant) → ids_meant (lookup (key_eq q) (put_all n es ms)) ≡ with_later (lookup (key_eq q) ms) (matches_from n q.0 q.1 es)
+module _ (q : ElementKey) where
+  ids_all : (es : List Element) (n : ℕ) (ms : List NameMeaning) → ids_meant (lookup (key_eq q) (put_all n es ms)) ≡ with_later (lookup (key_eq q) ms) (matches_from n q.0 q.1 es)
   ids_all [] n ms = none_later (lookup (key_eq q) ms)
   ids_all (e ∷ es) n ms =
-      ids_all es (n + 1) (put ms n e)
+      ids_all es (n + 1) (with_meaning ms n e)
       ∙ ap (λ o. with_later o (matches_from (n + 1) q.0 q.1 es)) (put_found ms n e q)
       ∙ one_later (lookup (key_eq q) ms) (is_named q.0 q.1 e) (stands_alone e) n (matches_from (n + 1) q.0 q.1 es)
 
@@ -122,14 +122,14 @@ module _ (q : Key) where
   either false m None later = refl
   either false m (Some k) later = refl
 
-  some_all : (es : List Element) (n : ℕ) (ms : List Meant) → is_some (lookup (key_eq q) (put_all n es ms)) ≡ (is_some (lookup (key_eq q) ms) || list_any (is_named q.0 q.1) es)
+  some_all : (es : List Element) (n : ℕ) (ms : List NameMeaning) → is_some (lookup (key_eq q) (put_all n es ms)) ≡ (is_some (lookup (key_eq q) ms) || list_any (is_named q.0 q.1) es)
   some_all [] n ms = by (is_some (lookup (key_eq q) ms))
     where
       by : (b : Bool) → b ≡ (b || false)
       by true = refl
       by false = refl
   some_all (e ∷ es) n ms =
-      some_all es (n + 1) (put ms n e)
+      some_all es (n + 1) (with_meaning ms n e)
       ∙ ap (λ o. is_some o || list_any (is_named q.0 q.1) es) (put_found ms n e q)
       ∙ either (is_named q.0 q.1 e) (with_more (lookup (key_eq q) ms) n (stands_alone e)) (lookup (key_eq q) ms) (list_any (is_named q.0 q.1) es)
 
@@ -139,16 +139,16 @@ module _ (q : Key) where
 
 -- one more element, as the last
 
-put_last : (es : List Element) (n : ℕ) (ms : List Meant) (e : Element) → put_all n (es ++ e ∷ []) ms ≡ put (put_all n es ms) (n + length es) e
-put_last [] n ms e = let same : n ≡ n + 0 = omega arith in ap (λ k. put ms k e) same
+put_last : (es : List Element) (n : ℕ) (ms : List NameMeaning) (e : Element) → put_all n (es ++ e ∷ []) ms ≡ with_meaning (put_all n es ms) (n + length es) e
+put_last [] n ms e = let same : n ≡ n + 0 = omega arith in ap (λ k. with_meaning ms k e) same
 put_last (f ∷ es) n ms e =
     let same : n + 1 + length es ≡ n + length (f ∷ es) = omega arith in
-    put_last es (n + 1) (put ms n f) e ∙ ap (λ k. put (put_all n (f ∷ es) ms) k e) same
+    put_last es (n + 1) (with_meaning ms n f) e ∙ ap (λ k. with_meaning (put_all n (f ∷ es) ms) k e) same
 
-pub meanings_more : (es : List Element) (e : Element) → meanings_of (es ++ e ∷ []) ≡ put (meanings_of es) (length es) e
-meanings_more es e = let same : 0 + length es ≡ length es = omega arith in put_last es 0 [] e ∙ ap (λ n. put (meanings_of es) n e) same
+pub meanings_more : (es : List Element) (e : Element) → meanings_of (es ++ e ∷ []) ≡ with_meaning (meanings_of es) (length es) e
+meanings_more es e = let same : 0 + length es ≡ length es = omega arith in put_last es 0 [] e ∙ ap (λ n. with_meaning (meanings_of es) n e) same
 
 -- the element is put where its name's meaning is written
-pub put_is : (ms : List Meant) (n : ℕ) (e : Element) (name : Name) (was : Option Meaning) (alone : Bool) (made : Meaning) → name ≡ e.name → was ≡ lookup (key_eq (name, e.is_private)) ms → alone ≡ stands_alone e → made ≡ with_more was n alone
-    → insert_entry key_eq ms (name, e.is_private) made ≡ put ms n e
+pub put_is : (ms : List NameMeaning) (n : ℕ) (e : Element) (name : Name) (was : Option Meaning) (alone : Bool) (made : Meaning) → name ≡ e.name → was ≡ lookup (key_eq (name, e.is_private)) ms → alone ≡ stands_alone e → made ≡ with_more was n alone
+    → insert_entry key_eq ms (name, e.is_private) made ≡ with_meaning ms n e
 put_is ms n e name was alone made a b c d = rw (d, b, c, a) refl

@@ -12,9 +12,9 @@ use Rattle.semantic_model.specs.Class.{Class, PrivateUse, uses_under, uses_below
 use Rattle.semantic_model.proofs.form.Clauses.{kind_is}
 use Rattle.class_table.specs.Lists.{ClassLists, no_classes, with_class, with_use}
 use Rattle.class_table.specs.Building.{with_body, with_use_under, use_in, popped}
-use Rattle.class_table.specs.Outward.{parent_in}
-use Rattle.class_table.specs.Noted.{noting_in, entered, left, noted_below}
-use Rattle.class_table.specs.Told.{told, FitCurrent, current_elements}
+use Rattle.class_table.specs.Outward.{parent_class}
+use Rattle.class_table.specs.Noted.{noting_in, class_entered, class_left, noted_below}
+use Rattle.class_table.specs.Told.{lists_with, FitCurrent, current_elements}
 use Rattle.class_table.specs.declared.builder.ClassTableBuilder.{ClassTableBuilder}
 use Rattle.class_table.proofs.Telling.{told_twice, told_nothing, told_unused, told_use, told_alike, told_class, declared_elements, declared_length}
 use Rattle.class_table.proofs.Fitting.{fits_told, fits_class, elements_kept, length_told, around}
@@ -25,12 +25,12 @@ use_of elements here = record { id = here.node_id; name = here.text; span = here
 -- a private identifier is offered as a use
 offered : (is_name : Bool) (parent : AstType) (here : Node) (current : Option ℕ) (lists : ClassLists)
     → cond is_name (with_use_under (noting_in current lists) here here.node_id parent) (noting_in current lists)
-    ≡ noting_in current (told lists current (cond (is_name && uses_under parent) (use_of (current_elements lists current) here ∷ []) []) [])
+    ≡ noting_in current (lists_with lists current (cond (is_name && uses_under parent) (use_of (current_elements lists current) here ∷ []) []) [])
 offered false parent here current lists = ap (noting_in current) (sym (told_nothing lists current))
 offered true parent here current lists = by (uses_under parent) current
   where
     by : (under : Bool) (c : Option ℕ) → noting_in c (cond under (option_map_or (λ n. with_use lists n (use_in lists n here here.node_id)) c lists) lists)
-        ≡ noting_in c (told lists c (cond under (use_of (current_elements lists c) here ∷ []) []) [])
+        ≡ noting_in c (lists_with lists c (cond under (use_of (current_elements lists c) here ∷ []) []) [])
     by false c = ap (noting_in c) (sym (told_nothing lists c))
     by true None = ap (noting_in None) (sym (told_unused lists (use_of [] here ∷ [])))
     by true (Some c) = ap (noting_in (Some c)) (sym (told_use lists c (use_of (current_elements lists (Some c)) here)))
@@ -44,13 +44,13 @@ abbrev pub noted_bodies : AstType → ℕ → Forest → ClassTableBuilder → C
 noted_bodies parent node nothing b = b
 noted_bodies parent node (tree r k span text marks below id after) b =
     let here : Node = record { kind = k; span = span; text = text; marks = marks; children = below; node_id = id } in
-    noted_bodies parent node after (left_body k (noted_bodies k id below (entered parent node here b)))
+    noted_bodies parent node after (left_body k (noted_bodies k id below (class_entered parent node here b)))
 
 -- a walk below a parent notes what the model says
 abbrev pub Notes : Forest → Type 0
 Notes f =
     (parent : AstType) (node : ℕ) (current : Option ℕ) (lists : ClassLists) → FitCurrent lists current
-    → noted_bodies parent node f (noting_in current lists) ≡ noting_in current (told lists current (uses_below (current_elements lists current) parent f) (classes_below (length lists.nodes) current node f))
+    → noted_bodies parent node f (noting_in current lists) ≡ noting_in current (lists_with lists current (uses_below (current_elements lists current) parent f) (classes_below (length lists.nodes) current node f))
 
 -- the class of a body
 abbrev class_with : ℕ → Option ℕ → Forest → Class
@@ -73,15 +73,15 @@ abbrev pub told_tree : ClassLists → Option ℕ → AstType → ℕ → Node �
 told_tree lists current parent node here =
     let is_body : Bool = same_kind here.kind kind.ClassBody in
     let elements : List Element = current_elements lists current in
-    told lists current (uses_own elements parent here ++ uses_through is_body elements here.kind here.children) (classes_through is_body (length lists.nodes) current node here.node_id here.children)
+    lists_with lists current (uses_own elements parent here ++ uses_through is_body elements here.kind here.children) (classes_through is_body (length lists.nodes) current node here.node_id here.children)
 
 -- below a node, once its own use is noted
 through : (k : AstType) (below : Forest) (ih : Notes below) (here : Node) (node id : ℕ) (current : Option ℕ) (lists : ClassLists) → here.children ≡ below → FitCurrent lists current → (is_body : Bool) → (is_body ≡ true → k ≡ kind.ClassBody)
     → noted_bodies k id below (cond is_body (with_body (noting_in current lists) here node) (noting_in current lists))
-    ≡ noting_in (cond is_body (Some (length lists.nodes)) current) (told lists current (uses_through is_body (current_elements lists current) k below) (classes_through is_body (length lists.nodes) current node id below))
+    ≡ noting_in (cond is_body (Some (length lists.nodes)) current) (lists_with lists current (uses_through is_body (current_elements lists current) k below) (classes_through is_body (length lists.nodes) current node id below))
 through k below ih here node id current lists same fits false is =
     ih k id current lists fits
-    ∙ ap (λ n. noting_in current (told lists current (uses_below (current_elements lists current) k below) (classes_below n current id below))) (sym (add-zero (length lists.nodes)))
+    ∙ ap (λ n. noting_in current (lists_with lists current (uses_below (current_elements lists current) k below) (classes_below n current id below))) (sym (add-zero (length lists.nodes)))
 through k below ih here node id current lists same fits true is =
     let n = length lists.nodes in
     let es = elements_of below in
@@ -117,7 +117,7 @@ counted (tree r k span text marks below id after) n current node =
 
 -- a node and what is below it, before the node is left
 pub tree_open : (parent : AstType) (node : ℕ) (current : Option ℕ) (lists : ClassLists) (here : Node) → Notes here.children → FitCurrent lists current
-    → noted_bodies here.kind here.node_id here.children (entered parent node here (noting_in current lists))
+    → noted_bodies here.kind here.node_id here.children (class_entered parent node here (noting_in current lists))
     ≡ noting_in (cond (same_kind here.kind kind.ClassBody) (Some (length lists.nodes)) current) (told_tree lists current parent node here)
 tree_open parent node current lists here ih fits =
     let k = here.kind in
@@ -126,14 +126,14 @@ tree_open parent node current lists here ih fits =
     let b = same_kind k kind.ClassBody in
     let E = current_elements lists current in
     let us0 = uses_own E parent here in
-    let lists0 = told lists current us0 [] in
+    let lists0 = lists_with lists current us0 [] in
     let fits0 = fits_told lists current us0 [] fits in
     let kept : current_elements lists0 current ≡ E = elements_kept lists current us0 [] fits in
     let place : length lists0.nodes ≡ length lists.nodes = length_told lists current us0 [] ∙ add-zero (length lists.nodes) in
     ap (λ x. noted_bodies k id below (cond b (with_body x here node) x)) (offered (same_kind k kind.PrivateIdentifier) parent here current lists)
     ∙ through k below ih here node id current lists0 refl fits0 b (λ e. kind_is k kind.ClassBody e)
-    ∙ ap (λ m. noting_in (cond b (Some m) current) (told lists0 current (uses_through b (current_elements lists0 current) k below) (classes_through b m current node id below))) place
-    ∙ ap (λ l. noting_in (cond b (Some (length lists.nodes)) current) (told lists0 current (uses_through b l k below) (classes_through b (length lists.nodes) current node id below))) kept
+    ∙ ap (λ m. noting_in (cond b (Some m) current) (lists_with lists0 current (uses_through b (current_elements lists0 current) k below) (classes_through b m current node id below))) place
+    ∙ ap (λ l. noting_in (cond b (Some (length lists.nodes)) current) (lists_with lists0 current (uses_through b l k below) (classes_through b (length lists.nodes) current node id below))) kept
     ∙ ap (noting_in (cond b (Some (length lists.nodes)) current)) (told_twice lists current us0 (uses_through b E k below) [] (classes_through b (length lists.nodes) current node id below) fits)
 
 -- the class around is current again behind the body
@@ -147,11 +147,11 @@ left_again parent node current lists here fits = by (same_kind here.kind kind.Cl
     us : Bool → List PrivateUse
     us b = uses_own (current_elements lists current) parent here ++ uses_through b (current_elements lists current) here.kind here.children
 
-    by : (b : Bool) → (let whole : ClassTableBuilder = noting_in (cond b (Some n) current) (told lists current (us b) (classes_through b n current node here.node_id here.children)) in cond b (popped whole) whole)
-        ≡ noting_in current (told lists current (us b) (classes_through b n current node here.node_id here.children))
+    by : (b : Bool) → (let whole : ClassTableBuilder = noting_in (cond b (Some n) current) (lists_with lists current (us b) (classes_through b n current node here.node_id here.children)) in cond b (popped whole) whole)
+        ≡ noting_in current (lists_with lists current (us b) (classes_through b n current node here.node_id here.children))
     by false = refl
     by true =
-        ap (λ c. noting_in c (told lists current (us true) (classes_through true n current node here.node_id here.children)))
+        ap (λ c. noting_in c (lists_with lists current (us true) (classes_through true n current node here.node_id here.children)))
         (around n lists.parents current (classes_below (n + 1) (Some n) here.node_id here.children) fits.inside)
 
 -- how many classes there are then
@@ -170,8 +170,8 @@ tree_length parent node current lists here =
 
 -- what comes after a tree goes on from there
 pub tree_joined : (parent : AstType) (node : ℕ) (current : Option ℕ) (lists : ClassLists) (r : Role) (here : Node) (after : Forest) → FitCurrent lists current
-    → (let lists1 : ClassLists = told_tree lists current parent node here in told lists1 current (uses_below (current_elements lists1 current) parent after) (classes_below (length lists1.nodes) current node after))
-    ≡ told lists current (uses_below (current_elements lists current) parent (tree r here.kind here.span here.text here.marks here.children here.node_id after))
+    → (let lists1 : ClassLists = told_tree lists current parent node here in lists_with lists1 current (uses_below (current_elements lists1 current) parent after) (classes_below (length lists1.nodes) current node after))
+    ≡ lists_with lists current (uses_below (current_elements lists current) parent (tree r here.kind here.span here.text here.marks here.children here.node_id after))
     (classes_below (length lists.nodes) current node (tree r here.kind here.span here.text here.marks here.children here.node_id after))
 tree_joined parent node current lists r here after fits =
     let k = here.kind in
@@ -219,7 +219,7 @@ declared_off b here node true off = ap (λ on. cond on (record b { current_class
 
 left_off : (b : ClassTableBuilder) (is_class : Bool) → b.enabled ≡ false → cond is_class (popped b) b ≡ b
 left_off b false off = refl
-left_off b true off = ap (λ on. cond on (record b { current_class_id = option_map_or (parent_in b.classes.parents) b.current_class_id None }) b) off
+left_off b true off = ap (λ on. cond on (record b { current_class_id = option_map_or (parent_class b.classes.parents) b.current_class_id None }) b) off
 
 -- a walk that notes no classes leaves the builder alone
 pub unnoted : (f : Forest) (parent : AstType) (node : ℕ) (b : ClassTableBuilder) → b.enabled ≡ false → noted_below parent node f b ≡ b
@@ -227,10 +227,10 @@ unnoted nothing parent node b off = refl
 unnoted (tree r k span text marks below id after) parent node b off =
     let here : Node = record { kind = k; span = span; text = text; marks = marks; children = below; node_id = id } in
     let is_body = same_kind k kind.ClassBody in
-    let into : entered parent node here b ≡ b =
+    let into : class_entered parent node here b ≡ b =
     ap (λ x. cond is_body (with_body x here node) x) (offered_off b parent here (same_kind k kind.PrivateIdentifier) off) ∙ declared_off b here node is_body off in
-    ap (λ x. noted_below parent node after (left k (noted_below k id below x))) into
-    ∙ ap (λ x. noted_below parent node after (left k x)) (unnoted below k id b off)
+    ap (λ x. noted_below parent node after (class_left k (noted_below k id below x))) into
+    ∙ ap (λ x. noted_below parent node after (class_left k x)) (unnoted below k id b off)
     ∙ ap (noted_below parent node after) (left_off b (same_kind k kind.Class) off)
     ∙ unnoted after parent node b off
 

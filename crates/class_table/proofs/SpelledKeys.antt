@@ -9,7 +9,7 @@ use Rattle.indexmap.specs.IndexMap.{insert_entry}
 use Rattle.semantic_syntax.proofs.SameTexts.{same_texts}
 use Rattle.class_table.specs.declared.meant_names.Meaning.{Meaning}
 use Rattle.class_table.specs.declared.meant_names.Meaning.TheVariants.{Alone, Half, Both}
-use Rattle.class_table.specs.Meanings.{Key, entry_seen, IsMeant, AreIds, ids_in, ids_meant, with_more, key_eq}
+use Rattle.class_table.specs.Meanings.{ElementKey, entry_seen, IsMeant, AreIds, ids_in, ids_meant, with_more, key_eq}
 
 abbrev pub Stored : Type 0
 Stored = Bor (List ℕ) × Bool
@@ -17,7 +17,7 @@ Stored = Bor (List ℕ) × Bool
 abbrev pub stored_eq : Stored → Stored → Bool
 stored_eq k l = bytes_eq k.0.now l.0.now && beq k.1 l.1
 
-abbrev pub key_seen : Stored → Key
+abbrev pub key_seen : Stored → ElementKey
 key_seen k = (chars k.0.now, k.1)
 
 same_bools : (a b : Bool) → cond b a (not a) ≡ beq a b

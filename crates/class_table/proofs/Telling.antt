@@ -7,7 +7,7 @@ use Rattle.std.proofs.lemmas.List.{map-append, append-nil, set-append_left, set-
 use Rattle.semantic_model.specs.Element.{Element}
 use Rattle.semantic_model.specs.Class.{Class, PrivateUse}
 use Rattle.class_table.specs.Lists.{ClassLists, with_class, with_use, elements_in}
-use Rattle.class_table.specs.Told.{parents_from, with_uses, told, FitCurrent}
+use Rattle.class_table.specs.Told.{parents_from, with_more_uses, lists_with, FitCurrent}
 
 parents_append : (n : ℕ) (cs ds : List Class) → parents_from n (cs ++ ds) ≡ parents_from n cs ++ parents_from (n + length cs) ds
 parents_append n [] ds = ap (λ m. parents_from m ds) (sym (add-zero n))
@@ -28,7 +28,7 @@ twice uses c us us' more within =
     ∙ ap (set uses c) (ap (λ l. l ++ us') read ∙ append_assoc (get_or uses c []) us us'))
 
 uses_append : (current : Option ℕ) (uses : List (List PrivateUse)) (us us' : List PrivateUse) (more : List (List PrivateUse)) → IfSome current (λ c. c < length uses)
-    → with_uses current us' (with_uses current us uses ++ more) ≡ with_uses current (us ++ us') uses ++ more
+    → with_more_uses current us' (with_more_uses current us uses ++ more) ≡ with_more_uses current (us ++ us') uses ++ more
 uses_append None uses us us' more within = refl
 uses_append (Some c) uses us us' more within = twice uses c us us' more within
 
@@ -46,7 +46,7 @@ appended : {A B : Type 0} (f : A → B) (l : List B) (xs ys : List A) → (l ++ 
 appended f l xs ys = append_assoc l (map f xs) (map f ys) ∙ ap (λ m. l ++ m) (sym (map-append f xs ys))
 
 pub told_twice : (lists : ClassLists) (current : Option ℕ) (us us' : List PrivateUse) (cs cs' : List Class) → FitCurrent lists current
-    → told (told lists current us cs) current us' cs' ≡ told lists current (us ++ us') (cs ++ cs')
+    → lists_with (lists_with lists current us cs) current us' cs' ≡ lists_with lists current (us ++ us') (cs ++ cs')
 told_twice lists current us us' cs cs' fits =
     let n = length lists.nodes in
     let more : length (lists.nodes ++ map (λ c. c.node) cs) ≡ n + length cs = length-append lists.nodes (map (λ c. c.node) cs) ∙ ap (λ m. n + m) (length-map cs (λ c. c.node)) in
@@ -56,27 +56,27 @@ told_twice lists current us us' cs cs' fits =
     (appended (λ c. c.node) lists.nodes cs cs')
     (appended (λ c. c.elements) lists.elements cs cs')
     (ap (λ l. l ++ map (λ c. c.uses) cs') (uses_append current lists.uses us us' (map (λ c. c.uses) cs) (within_uses lists current fits))
-    ∙ appended (λ c. c.uses) (with_uses current (us ++ us') lists.uses) cs cs')
+    ∙ appended (λ c. c.uses) (with_more_uses current (us ++ us') lists.uses) cs cs')
 
-nothing_more : (current : Option ℕ) (uses : List (List PrivateUse)) → with_uses current [] uses ≡ uses
+nothing_more : (current : Option ℕ) (uses : List (List PrivateUse)) → with_more_uses current [] uses ≡ uses
 nothing_more None uses = refl
 nothing_more (Some c) uses = ap (set uses c) (append-nil (get_or uses c [])) ∙ set-get_or uses c []
 
-pub told_nothing : (lists : ClassLists) (current : Option ℕ) → told lists current [] [] ≡ lists
+pub told_nothing : (lists : ClassLists) (current : Option ℕ) → lists_with lists current [] [] ≡ lists
 told_nothing lists current =
     same_lists _ _ _ _ _ _ _ _
-    (append-nil lists.parents) (append-nil lists.nodes) (append-nil lists.elements) (append-nil (with_uses current [] lists.uses) ∙ nothing_more current lists.uses)
+    (append-nil lists.parents) (append-nil lists.nodes) (append-nil lists.elements) (append-nil (with_more_uses current [] lists.uses) ∙ nothing_more current lists.uses)
 
-pub told_unused : (lists : ClassLists) (us : List PrivateUse) → told lists None us [] ≡ lists
+pub told_unused : (lists : ClassLists) (us : List PrivateUse) → lists_with lists None us [] ≡ lists
 told_unused lists us =
     same_lists _ _ _ _ _ _ _ _ (append-nil lists.parents) (append-nil lists.nodes) (append-nil lists.elements) (append-nil lists.uses)
 
-pub told_use : (lists : ClassLists) (c : ℕ) (u : PrivateUse) → told lists (Some c) (u ∷ []) [] ≡ with_use lists c u
+pub told_use : (lists : ClassLists) (c : ℕ) (u : PrivateUse) → lists_with lists (Some c) (u ∷ []) [] ≡ with_use lists c u
 told_use lists c u =
-    same_lists _ _ _ _ _ _ _ _ (append-nil lists.parents) (append-nil lists.nodes) (append-nil lists.elements) (append-nil (with_uses (Some c) (u ∷ []) lists.uses))
+    same_lists _ _ _ _ _ _ _ _ (append-nil lists.parents) (append-nil lists.nodes) (append-nil lists.elements) (append-nil (with_more_uses (Some c) (u ∷ []) lists.uses))
 
-pub told_alike : (lists : ClassLists) (current : Option ℕ) (us us' : List PrivateUse) (cs cs' : List Class) → us ≡ us' → cs ≡ cs' → told lists current us cs ≡ told lists current us' cs'
-told_alike lists current us us' cs cs' u c = ap (λ l. told lists current l cs) u ∙ ap (told lists current us') c
+pub told_alike : (lists : ClassLists) (current : Option ℕ) (us us' : List PrivateUse) (cs cs' : List Class) → us ≡ us' → cs ≡ cs' → lists_with lists current us cs ≡ lists_with lists current us' cs'
+told_alike lists current us us' cs cs' u c = ap (λ l. lists_with lists current l cs) u ∙ ap (lists_with lists current us') c
 
 last_read : {A : Type 0} (xs : List A) (y d : A) → get_or (xs ++ y ∷ []) (length xs) d ≡ y
 last_read [] y d = refl
@@ -95,7 +95,7 @@ declared_length lists current node es = length-append lists.nodes (node ∷ [])
 
 -- a class that was just declared, with uses and classes inside it
 pub told_class : (lists : ClassLists) (current : Option ℕ) (node : ℕ) (es : List Element) (us : List PrivateUse) (cs : List Class) → FitCurrent lists current
-    → told (with_class lists current node es) (Some (length lists.nodes)) us cs ≡ told lists current [] (record { node = node; parent = current; elements = es; uses = us } ∷ cs)
+    → lists_with (with_class lists current node es) (Some (length lists.nodes)) us cs ≡ lists_with lists current [] (record { node = node; parent = current; elements = es; uses = us } ∷ cs)
 told_class lists current node es us cs fits =
     let n = length lists.nodes in
     let here : List (ℕ × ℕ) = option_to_list (option_map (λ p. (n, p)) current) in

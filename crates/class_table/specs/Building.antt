@@ -6,7 +6,7 @@ use Rattle.semantic_tree.specs.declared.node.Node.{Node}
 use Rattle.semantic_model.specs.Element.{Element, element_of, elements_of, element_ids}
 use Rattle.semantic_model.specs.Class.{PrivateUse, uses_under}
 use Rattle.class_table.specs.Lists.{ClassLists, with_class, with_element, with_use, elements_in}
-use Rattle.class_table.specs.Outward.{parent_in}
+use Rattle.class_table.specs.Outward.{parent_class}
 use Rattle.class_table.specs.declared.builder.ClassTableBuilder.{ClassTableBuilder}
 
 -- the current class is there
@@ -41,4 +41,4 @@ with_use_under b ident node parent =
 
 -- the class around the current one is current
 abbrev pub popped : ClassTableBuilder → ClassTableBuilder
-popped b = cond b.enabled (record b { current_class_id = option_map_or (parent_in b.classes.parents) b.current_class_id None }) b
+popped b = cond b.enabled (record b { current_class_id = option_map_or (parent_class b.classes.parents) b.current_class_id None }) b

@@ -11,21 +11,21 @@ use Rattle.class_table.specs.declared.meant_names.Meaning.{Meaning}
 use Rattle.class_table.specs.declared.meant_names.Meaning.TheVariants.{Alone, Half, Both}
 
 -- a name, private or public
-abbrev pub Key : Type 0
-Key = Name × Bool
+abbrev pub ElementKey : Type 0
+ElementKey = Name × Bool
 
 -- a name, and what it means
-abbrev pub Meant : Type 0
-Meant = Key × Meaning
+abbrev pub NameMeaning : Type 0
+NameMeaning = ElementKey × Meaning
 
 -- what is seen of an entry of the map
-abbrev pub entry_seen : (Bor (List ℕ) × Bool) × Meaning → Meant
+abbrev pub entry_seen : (Bor (List ℕ) × Bool) × Meaning → NameMeaning
 entry_seen e = ((chars e.0.0.now, e.0.1), e.1)
 
-abbrev pub key_eq : Key → Key → Bool
+abbrev pub key_eq : ElementKey → ElementKey → Bool
 key_eq k l = bytes_eq k.0 l.0 && cond l.1 k.1 (not k.1)
 
-abbrev pub key_of : Element → Key
+abbrev pub key_of : Element → ElementKey
 key_of e = (e.name, e.is_private)
 
 -- what a name means with one more element of the number, after what it meant
@@ -59,14 +59,14 @@ pub record IsMeant (e : (Bor (List ℕ) × Bool) × Meaning) : Type 0 where
   pub ids : AreIds (ids_in e.1)
 
 -- with one more element, of the number
-abbrev pub put : List Meant → ℕ → Element → List Meant
-put meant n e = insert_entry key_eq meant (key_of e) (with_more (lookup (key_eq (key_of e)) meant) n (stands_alone e))
+abbrev pub with_meaning : List NameMeaning → ℕ → Element → List NameMeaning
+with_meaning meant n e = insert_entry key_eq meant (key_of e) (with_more (lookup (key_eq (key_of e)) meant) n (stands_alone e))
 
 -- with these elements more, numbered from n on
-abbrev pub put_all : ℕ → List Element → List Meant → List Meant
+abbrev pub put_all : ℕ → List Element → List NameMeaning → List NameMeaning
 put_all n [] meant = meant
-put_all n (e ∷ es) meant = put_all (n + 1) es (put meant n e)
+put_all n (e ∷ es) meant = put_all (n + 1) es (with_meaning meant n e)
 
 -- what each name means among the elements
-abbrev pub meanings_of : List Element → List Meant
+abbrev pub meanings_of : List Element → List NameMeaning
 meanings_of es = put_all 0 es []

@@ -10,30 +10,30 @@ use Rattle.class_table.specs.Building.{with_body, with_use_under, popped}
 use Rattle.class_table.specs.declared.builder.ClassTableBuilder.{ClassTableBuilder}
 
 -- a node is entered below a parent of the kind and the id
-abbrev pub entered : AstType → ℕ → Node → ClassTableBuilder → ClassTableBuilder
-entered parent node here b =
+abbrev pub class_entered : AstType → ℕ → Node → ClassTableBuilder → ClassTableBuilder
+class_entered parent node here b =
     let used : ClassTableBuilder = cond (same_kind here.kind kind.PrivateIdentifier) (with_use_under b here here.node_id parent) b in
     cond (same_kind here.kind kind.ClassBody) (with_body used here node) used
 
 -- a node of the kind is left
-abbrev pub left : AstType → ClassTableBuilder → ClassTableBuilder
-left k b = cond (same_kind k kind.Class) (popped b) b
+abbrev pub class_left : AstType → ClassTableBuilder → ClassTableBuilder
+class_left k b = cond (same_kind k kind.Class) (popped b) b
 
 -- the nodes below a parent of the kind and the id are walked
 abbrev pub noted_below : AstType → ℕ → Forest → ClassTableBuilder → ClassTableBuilder
 noted_below parent node nothing b = b
 noted_below parent node (tree r k span text marks below id after) b =
     let here : Node = record { kind = k; span = span; text = text; marks = marks; children = below; node_id = id } in
-    noted_below parent node after (left k (noted_below k id below (entered parent node here b)))
+    noted_below parent node after (class_left k (noted_below k id below (class_entered parent node here b)))
 
 -- the builder of a walk that notes classes, with the current class and the lists so far
 abbrev pub noting_in : Option ℕ → ClassLists → ClassTableBuilder
 noting_in current lists = record { enabled = true; current_class_id = current; classes = lists }
 
 -- the builder that begins it
-abbrev pub begun : ClassTableBuilder
-begun = noting_in None no_classes
+abbrev pub begun_builder : ClassTableBuilder
+begun_builder = noting_in None no_classes
 
 -- a program with the root is walked
-abbrev pub noted : Node → ClassTableBuilder → ClassTableBuilder
-noted root b = noted_below root.kind root.node_id root.children b
+abbrev pub program_noted : Node → ClassTableBuilder → ClassTableBuilder
+program_noted root b = noted_below root.kind root.node_id root.children b

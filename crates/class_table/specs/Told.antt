@@ -21,17 +21,17 @@ lists_told classes = record {
 }
 
 -- the uses with some more of the current class
-abbrev pub with_uses : Option ℕ → List PrivateUse → List (List PrivateUse) → List (List PrivateUse)
-with_uses None us uses = uses
-with_uses (Some c) us uses = slice_set uses c (slice_index_or uses c [] ++ us)
+abbrev pub with_more_uses : Option ℕ → List PrivateUse → List (List PrivateUse) → List (List PrivateUse)
+with_more_uses None us uses = uses
+with_more_uses (Some c) us uses = slice_set uses c (slice_index_or uses c [] ++ us)
 
 -- the lists with some classes more, and some uses more of the current class
-abbrev pub told : ClassLists → Option ℕ → List PrivateUse → List Class → ClassLists
-told lists current us classes = record {
+abbrev pub lists_with : ClassLists → Option ℕ → List PrivateUse → List Class → ClassLists
+lists_with lists current us classes = record {
   parents = lists.parents ++ parents_from (length lists.nodes) classes;
   nodes = lists.nodes ++ map (λ c. c.node) classes;
   elements = lists.elements ++ map (λ c. c.elements) classes;
-  uses = with_uses current us lists.uses ++ map (λ c. c.uses) classes;
+  uses = with_more_uses current us lists.uses ++ map (λ c. c.uses) classes;
 }
 
 -- the lists fit and the current class is there

@@ -2,7 +2,7 @@
 ghost use Rattle.std.specs.Prelude.{◌≡◌, length};
 ghost use Rattle.std.specs.Iterator.{at_most};
 ghost use Rattle.std.specs.Map.Iter.{TakesFirst};
-ghost use Rattle.class_table.specs.Outward.{StandBefore, parent_in, outward};
+ghost use Rattle.class_table.specs.Outward.{StandBefore, parent_class, classes_outward};
 
 use semantic_syntax::ClassId;
 use std::collections::BTreeMap;
@@ -10,7 +10,7 @@ use std::marker::Model;
 
 /// The class around a class, if there is one.
 pub(crate) fn parent_of(parents: &BTreeMap<ClassId, ClassId>, c: ClassId) -> Option<ClassId>
-    ensures { result ≡ parent_in parents.now.entries c }
+    ensures { result ≡ parent_class parents.now.entries c }
 {
     parents.get(&c).copied()
 }
@@ -24,11 +24,11 @@ pub struct ClassAncestors<'n> {
 
 impl<'n> Model for ClassAncestors<'n> {
     ghost use Rattle.std.specs.Prelude.{ℕ, List};
-    ghost use Rattle.class_table.specs.Outward.{outward_from, StandBefore};
+    ghost use Rattle.class_table.specs.Outward.{classes_outward_from, StandBefore};
 
     ghost Value = { List ℕ };
 
-    ghost view = { λ a. outward_from a.parents.now.entries a.next };
+    ghost view = { λ a. classes_outward_from a.parents.now.entries a.next };
 
     ghost invariant = { λ a. StandBefore a.parents.now.entries };
 }
@@ -37,7 +37,7 @@ impl<'n> ClassAncestors<'n> {
     /// The class first, by these parents.
     pub(crate) fn new(parents: &'n BTreeMap<ClassId, ClassId>, c: ClassId) -> ClassAncestors<'n>
         requires { StandBefore parents.now.entries }
-        ensures { result ≡ outward parents.now.entries c }
+        ensures { result ≡ classes_outward parents.now.entries c }
     {
         ClassAncestors {
             parents,

@@ -12,10 +12,10 @@ ghost use Rattle.semantic_model.specs.Place.{Place, OpenScope};
 ghost use Rattle.semantic_model.specs.Step.{Step, steps, steps_below, steps_of};
 ghost use Rattle.class_table.specs.Bodies.{end_rightly, all_end_rightly, current_behind};
 ghost use Rattle.class_table.specs.Lists.{ClassLists};
-ghost use Rattle.class_table.specs.Noted.{noting_in, begun, left, noted_below, noted};
+ghost use Rattle.class_table.specs.Noted.{noting_in, begun_builder, class_left, noted_below, program_noted};
 ghost use Rattle.class_table.specs.NotedSteps.{entered_under, noting_all};
-ghost use Rattle.class_table.specs.Outward.{parent_in};
-ghost use Rattle.class_table.specs.Told.{lists_told, told, FitCurrent, current_elements};
+ghost use Rattle.class_table.specs.Outward.{parent_class};
+ghost use Rattle.class_table.specs.Told.{lists_told, lists_with, FitCurrent, current_elements};
 ghost use Rattle.class_table.specs.declared.builder.ClassTableBuilder.{ClassTableBuilder};
 
 /// A walk that declares each class body on entering it, offers each private identifier as a use, and leaves a class
@@ -23,8 +23,10 @@ ghost use Rattle.class_table.specs.declared.builder.ClassTableBuilder.{ClassTabl
 /// it leaves the builder alone.
 pub fn a_walk_notes_the_classes()
     ensures noted { (p : Tree) → first_fault p ≡ None
-        → noted p.root begun ≡ record begun { classes = lists_told (classes p.root) } }
-    ensures off { (root : Node) (b : ClassTableBuilder) → b.enabled ≡ false → noted root b ≡ b }
+        → program_noted p.root begun_builder
+        ≡ record begun_builder { classes = lists_told (classes p.root) } }
+    ensures off { (root : Node) (b : ClassTableBuilder) → b.enabled ≡ false
+        → program_noted root b ≡ b }
 {}
 
 /// A class is current from its body on until its node is left: behind the children of a class that is the class of its
@@ -38,7 +40,7 @@ pub fn a_class_stays_current()
         →
         noted_below k node f (noting_in current lists)
         ≡ noting_in (current_behind (length lists.nodes) current f)
-        (told lists current (uses_below (current_elements lists current) k f)
+        (lists_with lists current (uses_below (current_elements lists current) k f)
         (classes_below (length lists.nodes) current node f)) }
 {}
 
@@ -51,10 +53,11 @@ pub fn steps_note_the_classes()
         → noting_all b (steps_below p own n cursor f) ≡ noted_below p.node.kind p.node.node_id f b }
     ensures node { (p : Place) (n : ℕ) (b : ClassTableBuilder)
         → noting_all b (steps_of p n)
-        ≡ left p.node.kind (noted_below p.node.kind p.node.node_id p.node.children
+        ≡ class_left p.node.kind (noted_below p.node.kind p.node.node_id p.node.children
         (entered_under p.path p.node b)) }
     ensures program { (p : Tree) → first_fault p ≡ None
-        → noting_all begun (steps p) ≡ record begun { classes = lists_told (classes p.root) } }
+        → noting_all begun_builder (steps p)
+        ≡ record begun_builder { classes = lists_told (classes p.root) } }
 {}
 
 /// There are no more classes, and no more elements of one class, than nodes.
@@ -66,5 +69,6 @@ pub fn classes_are_fewer_than_nodes()
 /// A table that tells some classes tells the class around each.
 pub fn a_table_tells_parents()
     ensures { (cs : List Class) (c : ℕ)
-        → parent_in (lists_told cs).parents c ≡ option_and_then (λ k. k.parent) (slice_get cs c) }
+        → parent_class (lists_told cs).parents c
+        ≡ option_and_then (λ k. k.parent) (slice_get cs c) }
 {}

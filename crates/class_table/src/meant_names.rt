@@ -2,7 +2,7 @@
 ghost use Rattle.std.specs.Prelude.{◌≡◌, ◌<◌, ◌≤◌, [], length, map, IfOk, OnOk, OnErr, is_some};
 ghost use Rattle.std.specs.Map.{lookup};
 ghost use Rattle.std.specs.Str.{chars, IsUtf8};
-ghost use Rattle.class_table.specs.Meanings.{key_eq, with_more, ids_meant, put, meanings_of, AreIds};
+ghost use Rattle.class_table.specs.Meanings.{key_eq, with_more, ids_meant, with_meaning, meanings_of, AreIds};
 ghost use Rattle.class_table.specs.Seen.{element_seen};
 
 use crate::element::Element;
@@ -32,10 +32,10 @@ pub(crate) struct MeantNames<'a> {
 
 impl<'a> Model for MeantNames<'a> {
     ghost use Rattle.std.specs.Prelude.{List, map};
-    ghost use Rattle.class_table.specs.Meanings.{Meant, entry_seen, IsMeant};
+    ghost use Rattle.class_table.specs.Meanings.{NameMeaning, entry_seen, IsMeant};
     ghost use Rattle.std.specs.List.{AllByRecursion};
 
-    ghost Value = { List Meant };
+    ghost Value = { List NameMeaning };
 
     ghost view = { λ m. map entry_seen m.meanings.entries };
 
@@ -93,7 +93,8 @@ impl<'a> MeantNames<'a> {
     /// Adds an element, whose number is past those of the others. After want of memory all is as before.
     pub(crate) fn put(&mut self, number: u32, element: &Element<'a>) -> Result<(), AllocError>
         requires { number < u32.MAX }
-        ensures ok { OnOk result (self.new ≡ put self.old number (element_seen element.now)) }
+        ensures ok { OnOk result
+            (self.new ≡ with_meaning self.old number (element_seen element.now)) }
         ensures err { OnErr result (self.new ≡ self.old) }
     {
         let name = element.name.as_str();

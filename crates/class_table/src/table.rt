@@ -6,8 +6,8 @@ ghost use Rattle.std.specs.Str.{chars};
 ghost use Rattle.semantic_model.specs.Element.{is_named, element_ids};
 ghost use Rattle.class_table.specs.Seen.{element_seen, use_seen};
 ghost use Rattle.class_table.specs.Lists.{IsInside, no_classes, with_class, with_element, with_use, elements_in, uses_in};
-ghost use Rattle.class_table.specs.Meanings.{put};
-ghost use Rattle.class_table.specs.Outward.{parent_in, outward};
+ghost use Rattle.class_table.specs.Meanings.{with_meaning};
+ghost use Rattle.class_table.specs.Outward.{parent_class, classes_outward};
 
 use crate::ancestors::{ClassAncestors, parent_of};
 use crate::element::Element;
@@ -92,7 +92,7 @@ impl<'a> ClassTable<'a> {
 
     /// The class around a class, if it stands inside one.
     pub(crate) fn parent_of(&self, c: ClassId) -> Option<ClassId>
-        ensures parent { result ≡ parent_in self.now.parents c }
+        ensures parent { result ≡ parent_class self.now.parents c }
         ensures before { IfSome result (λ p. p < c) }
     {
         parent_of(&self.parent_ids, c)
@@ -100,7 +100,7 @@ impl<'a> ClassTable<'a> {
 
     /// A class and those around it, inner first.
     pub fn ancestors(&self, c: ClassId) -> ClassAncestors<'_>
-        ensures { result ≡ outward self.now.parents c }
+        ensures { result ≡ classes_outward self.now.parents c }
     {
         ClassAncestors::new(&self.parent_ids, c)
     }
@@ -283,7 +283,8 @@ fn push_named<'a>(
     requires { length elements.old.items < u32.MAX }
     ensures elements { OnOk result (elements.new.items ≡ elements.old.items ++ element.entry ∷ []) }
     ensures names { OnOk result
-        (names.new ≡ put names.old (length elements.old.items) (element_seen element.entry)) }
+        (names.new ≡ with_meaning names.old (length elements.old.items)
+        (element_seen element.entry)) }
     ensures elements_stay { OnErr result (elements.new.items ≡ elements.old.items) }
     ensures names_stay { OnErr result (names.new ≡ names.old) }
 {

@@ -1,7 +1,7 @@
 //! What a walk notes of classes, node by node.
 ghost use Rattle.std.specs.Prelude.{◌≡◌, OnOk, OnErr};
 ghost use Rattle.class_table.specs.Building.{IsCurrent, with_body};
-ghost use Rattle.class_table.specs.Noted.{entered, left};
+ghost use Rattle.class_table.specs.Noted.{class_entered, class_left};
 
 use crate::builder::ClassTableBuilder;
 use semantic_syntax::NodeId;
@@ -14,7 +14,7 @@ impl<'a> ClassTableBuilder<'a> {
     pub fn enter(&mut self, kind: AstKind<'a>, parent: AstKind<'a>) -> Result<(), AllocError>
         requires { IsCurrent self.old }
         ensures ok { OnOk result
-            (self.new ≡ entered parent.entry.node.now.kind parent.entry.node.now.node_id
+            (self.new ≡ class_entered parent.entry.node.now.kind parent.entry.node.now.node_id
             kind.entry.node.now self.old) }
         ensures err { OnErr result (self.new ≡ self.old) }
         ensures stays { IsCurrent self.new }
@@ -44,7 +44,7 @@ impl<'a> ClassTableBuilder<'a> {
     /// Leaves a node of the kind: the class around a class is current then, or none.
     pub fn leave(&mut self, kind: AstType)
         requires { IsCurrent self.old }
-        ensures left { self.new ≡ left kind self.old }
+        ensures left { self.new ≡ class_left kind self.old }
         ensures stays { IsCurrent self.new }
     {
         if kind == AstType::Class {

@@ -2,7 +2,7 @@
 ghost use Rattle.std.specs.Prelude.{◌≡◌, ◌++◌, true, false, Ok, OnErr};
 ghost use Rattle.check_model.specs.Rows.{rows_of};
 ghost use Rattle.check_context.specs.Handed.{sight};
-ghost use Rattle.check_context.specs.Tells.{IsBegun};
+ghost use Rattle.check_context.specs.Tells.{TellsSome};
 ghost use Rattle.checker.specs.Checkable.{IsCheckable};
 
 use checker::{CheckContext, check, is_checkable};
@@ -22,7 +22,7 @@ pub fn add_early_errors<'a>(
         → out.new ≡ out.old ++ rows_of (sight kind.entry.node.now ctx.now) }
     ensures fit { IsCheckable kind.entry.node.now ctx.now → result ≡ Ok false → ⊥ }
     ensures unfit { result ≡ Ok false → out.new ≡ out.old }
-    ensures begun { OnErr result (IsBegun (rows_of (sight kind.entry.node.now ctx.now)) out.old
+    ensures begun { OnErr result (TellsSome (rows_of (sight kind.entry.node.now ctx.now)) out.old
         out.new) }
 {
     if !is_checkable(kind, ctx) {

@@ -11,7 +11,7 @@ use Rattle.check_model.specs.Elements.{clash, clash_row, element_rows}
 use Rattle.check_model.specs.Search.{each_after, row_if, rows_of_some}
 use Rattle.check_model.specs.Sight.{Sight}
 use Rattle.check_model.specs.Surroundings.{is_typescript}
-use Rattle.check_context.specs.Tells.{IsBegun, IsTelling}
+use Rattle.check_context.specs.Tells.{TellsSome, IsTelling}
 use Rattle.check_context.proofs.Telling.{goes_on, stops}
 use Rattle.expression_checks.specs.Predecessors.{earlier_of, and_element, predecessor_in}
 use Rattle.expression_checks.specs.declared.earlier_elements.EarlierElements.{EarlierElements}
@@ -70,5 +70,5 @@ module _ (s : Sight) (els : List StoredElement) (i : ℕ) (within : i < length e
     element_told k = goes_on rows (own_rows s earlier (element_seen own)) (rows_left s els (i + 1)) before mid now (subst (λ l. IsTelling rows l before mid) own_first telling) k
 
     -- it is told of in part
-    pub element_begun : IsBegun (own_rows s earlier (element_seen own)) mid now → IsBegun rows before now
+    pub element_begun : TellsSome (own_rows s earlier (element_seen own)) mid now → TellsSome rows before now
     element_begun k = stops rows (own_rows s earlier (element_seen own)) (rows_left s els (i + 1)) before mid now (subst (λ l. IsTelling rows l before mid) own_first telling) k

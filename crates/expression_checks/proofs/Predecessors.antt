@@ -12,8 +12,8 @@ use Rattle.semantic_syntax.specs.Tables.{Name}
 use Rattle.semantic_model.specs.Element.{Element}
 use Rattle.check_model.specs.Elements.{same_truth, some_or, predecessor}
 use Rattle.check_model.specs.Search.{find_last}
-use Rattle.expression_checks.specs.Entries.{Named}
-use Rattle.expression_checks.specs.Predecessors.{with_element, with_one_of, sets, is_public, is_private_setter, is_other_private, last_of, earlier_of, and_element, predecessor_in}
+use Rattle.expression_checks.specs.Entries.{NamedElement}
+use Rattle.expression_checks.specs.Predecessors.{with_last_element, with_one_of, sets, is_public, is_private_setter, is_other_private, last_of, earlier_of, and_element, predecessor_in}
 
 -- what a look-up finds after one more element
 
@@ -26,7 +26,7 @@ not_same a b h = elim (cases_Bool (bytes_eq b a)) [
   | inr q ↦ q
 ]
 
-noted_at : (es : List Named) (name : Name) (e : Element) (x : Name) → lookup (bytes_eq x) (insert_entry bytes_eq es name e) ≡ cond (bytes_eq x name) (Some e) (lookup (bytes_eq x) es)
+noted_at : (es : List NamedElement) (name : Name) (e : Element) (x : Name) → lookup (bytes_eq x) (insert_entry bytes_eq es name e) ≡ cond (bytes_eq x name) (Some e) (lookup (bytes_eq x) es)
 noted_at [] name e x = refl
 noted_at (f ∷ es) name e x = elim (cases_Bool (bytes_eq name f.0)) [
   | inl q ↦ (let k : name ≡ f.0 = same_name name f.0 q in rw q (rw k (both (bytes_eq x f.0))))
@@ -42,7 +42,7 @@ noted_at (f ∷ es) name e x = elim (cases_Bool (bytes_eq name f.0)) [
     both true = refl
     both false = refl
 
-noted : (es : List Named) (e : Element) (x : Name) → lookup (bytes_eq x) (with_element es e) ≡ cond (bytes_eq x e.name) (Some e) (lookup (bytes_eq x) es)
+noted : (es : List NamedElement) (e : Element) (x : Name) → lookup (bytes_eq x) (with_last_element es e) ≡ cond (bytes_eq x e.name) (Some e) (lookup (bytes_eq x) es)
 noted es e x = noted_at es e.name e x
 
 module _ (group : Element → Bool) (x : Name) where
@@ -50,10 +50,10 @@ module _ (group : Element → Bool) (x : Name) where
   abbrev is_meant : Element → Bool
   is_meant e = group e && bytes_eq x e.name
 
-  noted_if : (es : List Named) (e : Element) → lookup (bytes_eq x) (with_one_of group es e) ≡ cond (is_meant e) (Some e) (lookup (bytes_eq x) es)
+  noted_if : (es : List NamedElement) (e : Element) → lookup (bytes_eq x) (with_one_of group es e) ≡ cond (is_meant e) (Some e) (lookup (bytes_eq x) es)
   noted_if es e = by (group e)
     where
-      by : (b : Bool) → lookup (bytes_eq x) (cond b (with_element es e) es) ≡ cond (b && bytes_eq x e.name) (Some e) (lookup (bytes_eq x) es)
+      by : (b : Bool) → lookup (bytes_eq x) (cond b (with_last_element es e) es) ≡ cond (b && bytes_eq x e.name) (Some e) (lookup (bytes_eq x) es)
       by true = noted es e x
       by false = refl
 
@@ -70,7 +70,7 @@ module _ (group : Element → Bool) (x : Name) where
   either None true e c = refl
   either None false e c = refl
 
-  from_entries : (xs : List Element) (es : List Named) → lookup (bytes_eq x) (fold (with_one_of group) es xs) ≡ option_or (find_last is_meant xs) (lookup (bytes_eq x) es)
+  from_entries : (xs : List Element) (es : List NamedElement) → lookup (bytes_eq x) (fold (with_one_of group) es xs) ≡ option_or (find_last is_meant xs) (lookup (bytes_eq x) es)
   from_entries [] es = refl
   from_entries (e ∷ xs) es =
       from_entries xs (with_one_of group es e)
@@ -161,7 +161,7 @@ pub predecessor_found : (es : List Element) (own : Element) → predecessor_in (
 unfolding compared looked_up
 predecessor_found es own = same_predecessor own.is_private (sets own) own.name es
 
-fold_last : (group : Element → Bool) (es : List Named) (xs : List Element) (e : Element) → fold (with_one_of group) es (xs ++ e ∷ []) ≡ with_one_of group (fold (with_one_of group) es xs) e
+fold_last : (group : Element → Bool) (es : List NamedElement) (xs : List Element) (e : Element) → fold (with_one_of group) es (xs ++ e ∷ []) ≡ with_one_of group (fold (with_one_of group) es xs) e
 fold_last group es [] e = refl
 fold_last group es (x ∷ xs) e = fold_last group (with_one_of group es x) xs e
 

@@ -9,7 +9,7 @@ use Rattle.semantic_syntax.proofs.SameTexts.{same_texts, lookup_text}
 use Rattle.class_table.specs.Seen.{element_seen}
 use Rattle.class_table.specs.declared.element.Element.{Element as StoredElement}
 use Rattle.expression_checks.specs.Entries.{Stored, entry_seen, IsSpelled}
-use Rattle.expression_checks.specs.Predecessors.{element_behind, with_element}
+use Rattle.expression_checks.specs.Predecessors.{element_behind, with_last_element}
 
 abbrev text_eq : Bor (List ℕ) → Bor (List ℕ) → Bool
 text_eq k l = bytes_eq k.now l.now
@@ -32,7 +32,7 @@ insert_seen k v u (e ∷ es) h =
 
 -- an element under its own name
 pub insert_named : (k : Bor (List ℕ)) (v : Bor StoredElement) → IsUtf8 k.now → k.now ≡ v.now.name.text.now → (es : List Stored) → AllByRecursion IsSpelled es
-    → map entry_seen (insert_entry text_eq es k v) ≡ with_element (map entry_seen es) (element_seen v.now)
+    → map entry_seen (insert_entry text_eq es k v) ≡ with_last_element (map entry_seen es) (element_seen v.now)
 insert_named k v u own es h = insert_seen k v u es h ∙ ap (λ name. insert_entry bytes_eq (map entry_seen es) (chars name) (element_seen v.now)) own
 
 pub insert_spelled : (k : Bor (List ℕ)) (v : Bor StoredElement) → IsUtf8 k.now → (es : List Stored) → AllByRecursion IsSpelled es → AllByRecursion IsSpelled (insert_entry text_eq es k v)

@@ -8,15 +8,15 @@ use Rattle.class_table.specs.Seen.{element_seen}
 use Rattle.class_table.specs.declared.element.Element.{Element as StoredElement}
 
 -- a name, and the last element that has it
-abbrev pub Named : Type 0
-Named = Name × Element
+abbrev pub NamedElement : Type 0
+NamedElement = Name × Element
 
 -- an entry as it is stored
 abbrev pub Stored : Type 0
 Stored = Bor (List ℕ) × Bor StoredElement
 
 -- what is seen of an entry
-abbrev pub entry_seen : Stored → Named
+abbrev pub entry_seen : Stored → NamedElement
 entry_seen e = (chars e.0.now, element_seen e.1.now)
 
 -- the name of an entry is a text

@@ -10,7 +10,7 @@ use Rattle.semantic_model.specs.Element.{Element}
 use Rattle.class_table.specs.Seen.{element_seen}
 use Rattle.class_table.specs.declared.element.Element.{Element as StoredElement}
 use Rattle.check_model.specs.Elements.{some_or}
-use Rattle.expression_checks.specs.Entries.{Named}
+use Rattle.expression_checks.specs.Entries.{NamedElement}
 use Rattle.expression_checks.specs.declared.earlier_elements.EarlierElements.{EarlierElements}
 
 -- the element behind a reference
@@ -18,8 +18,8 @@ abbrev pub element_behind : Bor StoredElement → Element
 element_behind r = element_seen r.now
 
 -- one more element, as the last of its name
-abbrev pub with_element : List Named → Element → List Named
-with_element es e = insert_entry bytes_eq es e.name e
+abbrev pub with_last_element : List NamedElement → Element → List NamedElement
+with_last_element es e = insert_entry bytes_eq es e.name e
 
 -- a setter
 abbrev pub sets : Element → Bool
@@ -36,11 +36,11 @@ abbrev pub is_other_private : Element → Bool
 is_other_private e = e.is_private && not (sets e)
 
 -- one more element, if it is of the group
-abbrev pub with_one_of : (Element → Bool) → List Named → Element → List Named
-with_one_of group es e = cond (group e) (with_element es e) es
+abbrev pub with_one_of : (Element → Bool) → List NamedElement → Element → List NamedElement
+with_one_of group es e = cond (group e) (with_last_element es e) es
 
 -- the last elements of each name in a group
-abbrev pub last_of : (Element → Bool) → List Element → List Named
+abbrev pub last_of : (Element → Bool) → List Element → List NamedElement
 last_of group earlier = fold (with_one_of group) [] earlier
 
 -- the elements, by group
@@ -56,7 +56,7 @@ and_element earlier e = record {
 }
 
 -- the last element of the name in a group
-abbrev pub last_in : List Named → Element → Option Element
+abbrev pub last_in : List NamedElement → Element → Option Element
 last_in es own = lookup (bytes_eq own.name) es
 
 -- the element that an element is compared with

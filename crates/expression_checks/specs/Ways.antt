@@ -27,13 +27,13 @@ abbrev pub from_id : ℕ → List Node → List Node
 from_id id nodes = onward (λ node. node.node_id == id) nodes
 
 -- the id is lower than each that was passed
-abbrev pub is_below : Option ℕ → ℕ → Bool
-is_below None id = true
-is_below (Some least) id = nat_lt id least
+abbrev pub is_below_all : Option ℕ → ℕ → Bool
+is_below_all None id = true
+is_below_all (Some least) id = nat_lt id least
 
 -- the way is that along the nodes: none that was passed has an id below the least of them
 abbrev pub GoesAlong : List Node → Way → Type 0
-GoesAlong nodes way = (id : ℕ) → is_below way.least id ≡ true → from_id id nodes ≡ from_id id (way_left way)
+GoesAlong nodes way = (id : ℕ) → is_below_all way.least id ≡ true → from_id id nodes ≡ from_id id (way_left way)
 
 -- going on outward along the nodes, the first element of the class is left through its value or its type
 abbrev pub leaves_value_from : ℕ → List Node → Bool

@@ -6,7 +6,7 @@ ghost use Rattle.semantic_tree.specs.Views.{has_child, has_text};
 ghost use Rattle.check_model.specs.Classes as rows;
 ghost use Rattle.check_model.specs.Search.{row_if, rows_of_some};
 ghost use Rattle.check_model.specs.Entries.{one_before_last};
-ghost use Rattle.check_model.specs.Sight.{entries_of};
+ghost use Rattle.check_model.specs.Sight.{symbol_entries};
 ghost use Rattle.check_model.specs.Surroundings.{is_under};
 ghost use Rattle.semantic_syntax.specs.Sets.{meets};
 ghost use Rattle.semantic_syntax.specs.declared.symbol_flags.TheConstants.SymbolFlags as symbol;
@@ -102,7 +102,7 @@ fn tell_redeclaration(
         Tells result (rows_of_some
         (λ before. row_if (meets before.flags.bits symbol.Function.bits)
         (tell.redeclaration name.text before.span name.span))
-        (one_before_last (entries_of (around ctx.now) name))) out.old out.new }
+        (one_before_last (symbol_entries (around ctx.now) name))) out.old out.new }
 {
     let Some(before) = one_before_last(ctx.entries_of(ident)) else {
         return Ok(());

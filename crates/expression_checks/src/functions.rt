@@ -10,7 +10,7 @@ ghost use Rattle.check_model.specs.Bodies as bodies;
 ghost use Rattle.check_model.specs.Entries.{before_last};
 ghost use Rattle.check_model.specs.Functions as rows;
 ghost use Rattle.check_model.specs.Search.{rows_of_some};
-ghost use Rattle.check_model.specs.Sight.{entries_of};
+ghost use Rattle.check_model.specs.Sight.{symbol_entries};
 ghost use Rattle.check_context.specs.Handed.{around, sight, IsContext};
 ghost use Rattle.check_context.specs.Tells.{Tells};
 
@@ -112,7 +112,8 @@ fn tell_sloppy_repeat(
 ) -> Result<(), AllocError>
     ensures { let node = ident.entry.node.now in
         Tells result (rows_of_some (λ entry. tell.redeclaration node.text entry.span node.span ∷ [])
-        (find rows.is_async_or_generator (before_last (entries_of (around ctx.now) node)))) out.old
+        (find rows.is_async_or_generator (before_last (symbol_entries (around ctx.now) node))))
+        out.old
         out.new }
 {
     match earlier_async_or_generator(ctx.entries_of(ident), ctx.plain_entries_of(ident)) {
@@ -133,7 +134,7 @@ fn tell_repeat<'a>(
 ) -> Result<(), AllocError>
     requires { IsContext ctx.now }
     ensures { let s = sight kind.entry.node.now ctx.now in let ident = ident.entry.node.now in
-        Tells result (rows.repeat_rows s ident before.now (before_last (entries_of s ident)))
+        Tells result (rows.repeat_rows s ident before.now (before_last (symbol_entries s ident)))
         out.old out.new }
 {
     if is_sloppy_repeat(kind, before, ctx) {
@@ -154,7 +155,7 @@ fn tell_redeclared<'a>(
 ) -> Result<(), AllocError>
     requires { IsContext ctx.now }
     ensures { let s = sight kind.entry.node.now ctx.now in let ident = ident.entry.node.now in
-        Tells result (rows.redeclared_rows s ident (entries_of s ident)) out.old out.new }
+        Tells result (rows.redeclared_rows s ident (symbol_entries s ident)) out.old out.new }
 {
     let Some(before) = one_before_last(ctx.entries_of(ident)) else {
         return Ok(());

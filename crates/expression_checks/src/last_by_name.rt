@@ -3,7 +3,7 @@ ghost use Rattle.std.specs.Prelude.{◌≡◌, [], option_map, OnOk, OnErr};
 ghost use Rattle.std.specs.Map.{lookup};
 ghost use Rattle.std.specs.Str.{chars, bytes_eq, IsUtf8};
 ghost use Rattle.class_table.specs.Seen.{element_seen};
-ghost use Rattle.expression_checks.specs.Predecessors.{element_behind, with_element};
+ghost use Rattle.expression_checks.specs.Predecessors.{element_behind, with_last_element};
 
 use class_table::Element;
 use indexmap::IndexMap;
@@ -19,9 +19,9 @@ pub(crate) struct LastByName<'n, 'a> {
 impl<'n, 'a> Model for LastByName<'n, 'a> {
     ghost use Rattle.std.specs.Prelude.{List, map};
     ghost use Rattle.std.specs.List.{AllByRecursion};
-    ghost use Rattle.expression_checks.specs.Entries.{Named, entry_seen, IsSpelled};
+    ghost use Rattle.expression_checks.specs.Entries.{NamedElement, entry_seen, IsSpelled};
 
-    ghost Value = { List Named };
+    ghost Value = { List NamedElement };
 
     ghost view = { λ m. map entry_seen m.elements.entries };
 
@@ -57,7 +57,7 @@ impl<'n, 'a> LastByName<'n, 'a> {
     #[tactic(auto, using(crate::proofs::SpelledNames::names))]
     pub(crate) fn put(&mut self, element: &'n Element<'a>) -> Result<(), AllocError>
         ensures ok { OnOk result
-            (self.new ≡ with_element self.old (element_seen element.entry.now)) }
+            (self.new ≡ with_last_element self.old (element_seen element.entry.now)) }
         ensures err { OnErr result (self.new ≡ self.old) }
     {
         let name = element.name.as_str();

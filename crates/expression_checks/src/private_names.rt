@@ -3,7 +3,7 @@ ghost use Rattle.std.specs.Prelude.{◌≡◌, ◌<◌, Some, flat_map, length};
 ghost use Rattle.std.specs.List.{AllByRecursion, list_any};
 ghost use Rattle.std.specs.Str.{chars};
 ghost use Rattle.class_table.specs.Lists.{uses_in};
-ghost use Rattle.class_table.specs.Outward.{outward};
+ghost use Rattle.class_table.specs.Outward.{classes_outward};
 ghost use Rattle.class_table.specs.Seen.{use_seen};
 ghost use Rattle.check_model.specs.Classes as rows;
 ghost use Rattle.check_model.specs.Context.{classes_from};
@@ -21,7 +21,7 @@ use std::alloc::{AllocError, Global};
 fn attest_around(class: ClassId, classes: &ClassTable<'_>)
     requires { class < length classes.now.nodes }
     ensures { AllByRecursion (λ c. c < length classes.now.nodes)
-        (outward classes.now.parents class) }
+        (classes_outward classes.now.parents class) }
 {
     let _class = class;
     let _count = classes.parent_ids.len();

@@ -7,10 +7,10 @@ ghost use Rattle.semantic_tree.specs.Views.{has_child};
 ghost use Rattle.semantic_diagnostics.specs.Functions as tell;
 ghost use Rattle.check_model.specs.Search.{first, row_if};
 ghost use Rattle.check_model.specs.Super as rows;
-ghost use Rattle.check_model.specs.Surroundings.{node_of};
+ghost use Rattle.check_model.specs.Surroundings.{node_by_id};
 ghost use Rattle.check_context.specs.Handed.{sight, IsContext};
 ghost use Rattle.check_context.specs.Tells.{Tells};
-ghost use Rattle.expression_checks.specs.Searches.{classes_kept, found_shown, IsKept};
+ghost use Rattle.expression_checks.specs.Searches.{classes_kept, found_shown, ClassIsKept};
 
 use crate::super_search::{Found, first_verdict};
 use crate::verdict::{Verdict, call_around, is_call};
@@ -68,9 +68,9 @@ fn node_of_kept<'a>(
     ctx: &CheckContext<'a, '_>,
 ) -> Option<AstKind<'a>>
     requires context { IsContext ctx.now }
-    requires kept { IsKept ctx.now kept }
+    requires kept { ClassIsKept ctx.now kept }
     ensures { option_map shown result
-        ≡ option_and_then (λ class. node_of (sight kind.entry.node.now ctx.now) class.node)
+        ≡ option_and_then (λ class. node_by_id (sight kind.entry.node.now ctx.now) class.node)
         (first (classes_kept ctx.now kept)) }
 {
     match kept {
@@ -111,7 +111,7 @@ fn tell_derived<'a>(
     out: &mut Diagnostics,
 ) -> Result<(), AllocError>
     requires context { IsContext ctx.now }
-    requires kept { IsKept ctx.now kept }
+    requires kept { ClassIsKept ctx.now kept }
     ensures { Tells result (rows.derived_rows (sight kind.entry.node.now ctx.now)
         (classes_kept ctx.now kept)) out.old out.new }
 {
@@ -131,7 +131,7 @@ fn tell_verdict<'a>(
     out: &mut Diagnostics,
 ) -> Result<(), AllocError>
     requires context { IsContext ctx.now }
-    requires kept { IsKept ctx.now found.kept }
+    requires kept { ClassIsKept ctx.now found.kept }
     ensures { Tells result (rows.verdict_rows (sight kind.entry.node.now ctx.now)
         (found_shown ctx.now found)) out.old out.new }
 {

@@ -3,7 +3,7 @@ ghost use Rattle.std.specs.Prelude.{◌≡◌, ◌<◌, if◌then◌else◌, Som
 ghost use Rattle.check_model.specs.Context.{seen_row};
 ghost use Rattle.check_model.specs.Super as rows;
 ghost use Rattle.check_context.specs.Handed.{sight, IsContext};
-ghost use Rattle.expression_checks.specs.Searches.{classes_kept, found_shown, IsKept, IsSearching};
+ghost use Rattle.expression_checks.specs.Searches.{classes_kept, found_shown, ClassIsKept, IsSearching};
 ghost use Rattle.expression_checks.specs.Verdicts.{verdict_shown};
 
 use crate::verdict::{Verdict, scope_verdict};
@@ -47,7 +47,7 @@ impl<'n, 'a> Searching<'n, 'a> {
     /// Whether the scope is that of the kept class.
     fn is_class_scope(&self, scope: ScopeId, ctx: &CheckContext<'a, 'n>) -> bool
         requires scope { scope < length ctx.now.scoping.now.scopes }
-        requires kept { IsKept ctx.now self.now.kept }
+        requires kept { ClassIsKept ctx.now self.now.kept }
         ensures { result ≡ rows.is_scope_of (classes_kept ctx.now self.now.kept)
             (seen_row ctx.now.scoping.now scope) }
     {
@@ -111,11 +111,11 @@ impl<'n, 'a> Searching<'n, 'a> {
     /// Passes a scope that decides nothing; behind that of the kept class the class around it is kept.
     fn pass(&mut self, scope: ScopeId, ctx: &CheckContext<'a, 'n>)
         requires scope { scope < length ctx.now.scoping.now.scopes }
-        requires kept { IsKept ctx.now self.old.kept }
+        requires kept { ClassIsKept ctx.now self.old.kept }
         ensures kept { classes_kept ctx.now self.new.kept
             ≡ rows.kept_after (classes_kept ctx.now self.old.kept)
             (seen_row ctx.now.scoping.now scope) }
-        ensures there { IsKept ctx.now self.new.kept }
+        ensures there { ClassIsKept ctx.now self.new.kept }
         ensures from { self.new.from ≡ (seen_row ctx.now.scoping.now scope).opener }
         ensures way { self.new.way ≡ self.old.way }
     {
@@ -128,9 +128,9 @@ impl<'n, 'a> Searching<'n, 'a> {
 
 /// The class around a class that there may be.
 fn outer_kept(kept: Option<ClassId>, ctx: &CheckContext<'_, '_>) -> Option<ClassId>
-    requires { IsKept ctx.now kept }
+    requires { ClassIsKept ctx.now kept }
     ensures outward { classes_kept ctx.now result ≡ drop 1 (classes_kept ctx.now kept) }
-    ensures there { IsKept ctx.now result }
+    ensures there { ClassIsKept ctx.now result }
 {
     match kept {
         Some(class) => ctx.outer_class(class),
@@ -143,7 +143,7 @@ pub(crate) fn first_verdict<'a>(kind: AstKind<'a>, ctx: &CheckContext<'a, '_>) -
     requires { IsContext ctx.now }
     ensures found { let s = sight kind.entry.node.now ctx.now in
         found_shown ctx.now result ≡ rows.search_from s s.classes s.node.node_id s.scopes }
-    ensures kept { IsKept ctx.now result.kept }
+    ensures kept { ClassIsKept ctx.now result.kept }
 {
     ctx.scoping.attest();
     let mut state = Searching::new(kind, ctx);

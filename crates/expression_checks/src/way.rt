@@ -6,10 +6,10 @@ ghost use Rattle.semantic_tree.specs.Views.{is_child_in};
 ghost use Rattle.semantic_tree.specs.declared.node.Node.{Node};
 ghost use Rattle.check_model.specs.Search.{find_before};
 ghost use Rattle.check_model.specs.Super as rows;
-ghost use Rattle.check_model.specs.Surroundings.{outward};
+ghost use Rattle.check_model.specs.Surroundings.{nodes_outward};
 ghost use Rattle.check_context.specs.Handed.{sight, IsContext};
 ghost use Rattle.check_context.specs.Shown.{link_shown};
-ghost use Rattle.expression_checks.specs.Ways.{from_id, is_below, leaves_value_from, way_left, way_links, GoesAlong};
+ghost use Rattle.expression_checks.specs.Ways.{from_id, is_below_all, leaves_value_from, way_left, way_links, GoesAlong};
 
 use check_context::{CheckContext, is_child_in};
 use node_store::AncestorKinds;
@@ -29,7 +29,7 @@ pub(crate) struct Way<'n, 'a> {
 
 /// The lower of an id and of another that there may be.
 fn lower(least: Option<NodeId>, id: NodeId) -> NodeId
-    ensures { (other : ℕ) → nat_lt other result ≡ (is_below least other && nat_lt other id) }
+    ensures { (other : ℕ) → nat_lt other result ≡ (is_below_all least other && nat_lt other id) }
 {
     match least {
         Some(least) if least < id => least,
@@ -63,8 +63,8 @@ impl<'n, 'a> Way<'n, 'a> {
     /// The way from a node, which is the first place.
     pub(crate) fn new(kind: AstKind<'a>, ctx: &CheckContext<'a, 'n>) -> Way<'n, 'a>
         requires { IsContext ctx.now }
-        ensures left { way_left result ≡ outward (sight kind.entry.node.now ctx.now) }
-        ensures along { GoesAlong (outward (sight kind.entry.node.now ctx.now)) result }
+        ensures left { way_left result ≡ nodes_outward (sight kind.entry.node.now ctx.now) }
+        ensures along { GoesAlong (nodes_outward (sight kind.entry.node.now ctx.now)) result }
     {
         Way {
             here: Some(kind),
@@ -75,7 +75,7 @@ impl<'n, 'a> Way<'n, 'a> {
 
     /// Whether no node that was passed has the id, as far as ids tell.
     fn is_before(&self, id: NodeId) -> bool
-        ensures { result ≡ is_below self.now.least id }
+        ensures { result ≡ is_below_all self.now.least id }
     {
         match self.least {
             Some(least) => id < least,
@@ -121,10 +121,10 @@ impl<'n, 'a> Way<'n, 'a> {
     /// Stands before the node with the id: where that may have been passed, the way begins anew.
     fn stand_before(&mut self, id: NodeId, kind: AstKind<'a>, ctx: &CheckContext<'a, 'n>)
         requires context { IsContext ctx.now }
-        requires along { GoesAlong (outward (sight kind.node.now ctx.now)) self.old }
+        requires along { GoesAlong (nodes_outward (sight kind.node.now ctx.now)) self.old }
         ensures left { from_id id (way_left self.new)
-            ≡ from_id id (outward (sight kind.entry.node.now ctx.now)) }
-        ensures along { GoesAlong (outward (sight kind.entry.node.now ctx.now)) self.new }
+            ≡ from_id id (nodes_outward (sight kind.entry.node.now ctx.now)) }
+        ensures along { GoesAlong (nodes_outward (sight kind.entry.node.now ctx.now)) self.new }
     {
         if !self.is_before(id) {
             *self = Way::new(kind, ctx);
@@ -134,10 +134,10 @@ impl<'n, 'a> Way<'n, 'a> {
     /// Goes to the node with the id.
     pub(crate) fn go_to(&mut self, id: NodeId, kind: AstKind<'a>, ctx: &CheckContext<'a, 'n>)
         requires context { IsContext ctx.now }
-        requires along { GoesAlong (outward (sight kind.node.now ctx.now)) self.old }
+        requires along { GoesAlong (nodes_outward (sight kind.node.now ctx.now)) self.old }
         ensures left { way_left self.new
-            ≡ from_id id (outward (sight kind.entry.node.now ctx.now)) }
-        ensures along { GoesAlong (outward (sight kind.entry.node.now ctx.now)) self.new }
+            ≡ from_id id (nodes_outward (sight kind.entry.node.now ctx.now)) }
+        ensures along { GoesAlong (nodes_outward (sight kind.entry.node.now ctx.now)) self.new }
     {
         self.stand_before(id, kind, ctx);
         self.go_on_to(id);

@@ -26,7 +26,7 @@ impl FindingProgram for FileCheck {
     ghost use Rattle.std.proofs.Common.{ap, ◌∙◌};
     ghost use Rattle.program_ends.specs.Meaning.{is_answer};
     ghost use Rattle.report_answers.specs.Codes as report;
-    ghost use Rattle.name_lint.specs.Known.{names_of};
+    ghost use Rattle.name_lint.specs.Known.{known_names};
     ghost use Rattle.name_lint.specs.Undeclared.{undeclared};
     ghost use Rattle.name_lint.specs.Words.{AreNames};
     ghost use Rattle.file_check.specs.Codes.{end_of_both, both_answer};
@@ -44,7 +44,7 @@ impl FindingProgram for FileCheck {
         ∙ ap (end_of_both (report.end_of (report.status_for answers.reported.diagnostics)))
         answers.named.ends)
         ∙ both_answer answers.reported.diagnostics answers.named.unused
-        (undeclared (names_of words) program) };
+        (undeclared (known_names words) program) };
 
     fn usage() -> &'static str {
         USAGE

@@ -9,18 +9,18 @@ use Rattle.semantic_kinds.proofs.Ascii.{ascii_text}
 use Rattle.semantic_kinds.specs.declared.role.Role.TheVariants as role
 use Rattle.semantic_tree.specs.Children.{single}
 use Rattle.semantic_tree.specs.Forest.{join}
-use Rattle.generated_tree.specs.Generated.{function_name, line, lines, function, functions, most_functions}
+use Rattle.generated_tree.specs.Generated.{function_name, function_line, lines, function, functions, most_functions}
 use Rattle.generated_tree.proofs.Ascii.{name_is_ascii}
 
 -- a line that is added piece by piece
-pub pushed : (old name a b c : List ℕ) → a ≡ old ++ codes "function " → b ≡ a ++ name → c ≡ b ++ codes "(a = x) { var x; x = a; }\n" → c ≡ old ++ line name
+pub pushed : (old name a b c : List ℕ) → a ≡ old ++ codes "function " → b ≡ a ++ name → c ≡ b ++ codes "(a = x) { var x; x = a; }\n" → c ≡ old ++ function_line name
 pushed old name a b c first second third =
     third
     ∙ ap (λ text. text ++ codes "(a = x) { var x; x = a; }\n") (second ∙ ap (λ text. text ++ name) first)
     ∙ append_assoc (old ++ codes "function ") name (codes "(a = x) { var x; x = a; }\n")
     ∙ append_assoc old (codes "function ") (name ++ codes "(a = x) { var x; x = a; }\n")
 
-pub line_length : (name : List ℕ) → length (line name) ≡ 9 + length name + 26
+pub line_length : (name : List ℕ) → length (function_line name) ≡ 9 + length name + 26
 line_length name =
     let first = length-append (codes "function ") (name ++ codes "(a = x) { var x; x = a; }\n") in
     let second = length-append name (codes "(a = x) { var x; x = a; }\n") in
@@ -36,7 +36,7 @@ name_length i h =
     omega arith
 
 next_length : (i : ℕ) → length (lines (suc i)) ≡ length (lines i) + (9 + length (function_name i) + 26)
-next_length i = length-append (lines i) (line (function_name i)) ∙ ap (λ n. length (lines i) + n) (line_length (function_name i))
+next_length i = length-append (lines i) (function_line (function_name i)) ∙ ap (λ n. length (lines i) + n) (line_length (function_name i))
 
 -- a line has at most 41 bytes
 pub lines_length : (i : ℕ) → i ≤ most_functions → length (lines i) ≤ 41 * i
@@ -65,7 +65,7 @@ line_within i (suc n) h = elim (leb_tells n i) [
 pub lines_are_ascii : (n : ℕ) → n ≤ most_functions → IsAscii (lines n)
 lines_are_ascii zero h = ascii_text [] refl
 lines_are_ascii (suc i) h =
-    IsAscii-append (lines i) (line (function_name i)) (lines_are_ascii i (omega (arith, h)))
+    IsAscii-append (lines i) (function_line (function_name i)) (lines_are_ascii i (omega (arith, h)))
     (IsAscii-append (codes "function ") (function_name i ++ codes "(a = x) { var x; x = a; }\n") (ascii_text (codes "function ") refl)
     (IsAscii-append (function_name i) (codes "(a = x) { var x; x = a; }\n") (name_is_ascii i (omega (arith, h))) (ascii_text (codes "(a = x) { var x; x = a; }\n") refl)))
 
@@ -73,7 +73,7 @@ lines_are_ascii (suc i) h =
 pub lines_chars : (n : ℕ) → n ≤ most_functions → chars (lines n) ≡ lines n
 lines_chars n h = chars-IsAscii (lines n) (lines_are_ascii n h)
 
-pub lines_next : (i : ℕ) → lines (i + 1) ≡ lines i ++ line (function_name i)
+pub lines_next : (i : ℕ) → lines (i + 1) ≡ lines i ++ function_line (function_name i)
 lines_next i = ap lines (add-one i)
 
 pub functions_next : (i : ℕ) → functions (i + 1) ≡ join (functions i) (single role.Body (function (length (lines i)) (function_name i)))

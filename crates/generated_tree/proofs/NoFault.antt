@@ -32,7 +32,7 @@ use Rattle.semantic_tree.specs.declared.error.TreeError.TheVariants.{Shape, TooM
 use Rattle.semantic_tree.specs.declared.error.SpanFault.TheVariants as span
 use Rattle.semantic_tree.proofs.FitLaws.{Fit-fit}
 use Rattle.semantic_tree.proofs.Forests.{count-join, count-numbered, numbered-join}
-use Rattle.generated_tree.specs.Generated.{function_name, lines, plain, function, functions, generated, most_functions}
+use Rattle.generated_tree.specs.Generated.{function_name, lines, plain_node, function, functions, generated, most_functions}
 use Rattle.generated_tree.proofs.Lines.{lines_length, line_within, lines_are_ascii}
 
 -- the tree of a function, numbered from m on

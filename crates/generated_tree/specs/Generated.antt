@@ -16,56 +16,56 @@ abbrev pub function_name : ℕ → List ℕ
 function_name i = codes "f" ++ decimal i
 
 -- the line of a function of the name
-abbrev pub line : List ℕ → List ℕ
-line name = codes "function " ++ (name ++ codes "(a = x) { var x; x = a; }\n")
+abbrev pub function_line : List ℕ → List ℕ
+function_line name = codes "function " ++ (name ++ codes "(a = x) { var x; x = a; }\n")
 
 -- the lines of the first functions
 abbrev pub lines : ℕ → List ℕ
 lines zero = []
-lines (suc i) = lines i ++ line (function_name i)
+lines (suc i) = lines i ++ function_line (function_name i)
 
 -- a node without marks, which has no number yet
-abbrev pub plain : AstType → ℕ → ℕ → List ℕ → Forest → Node
-plain k start end text children = record { kind = k; span = record { start = start; end = end }; text = text; marks = no_marks; children = children; node_id = 0 }
+abbrev pub plain_node : AstType → ℕ → ℕ → List ℕ → Forest → Node
+plain_node k start end text children = record { kind = k; span = record { start = start; end = end }; text = text; marks = no_marks; children = children; node_id = 0 }
 
 -- a node without children
 abbrev pub leaf : AstType → ℕ → ℕ → List ℕ → Node
-leaf k start end text = plain k start end text nothing
+leaf k start end text = plain_node k start end text nothing
 
 -- the parameter `a = x`
 abbrev pub parameter : ℕ → Node
 parameter at =
-    plain kind.FormalParameter at (at + 5) []
+    plain_node kind.FormalParameter at (at + 5) []
     (forest_of ((role.Pattern, leaf kind.BindingIdentifier at (at + 1) (codes "a")) ∷ (role.Initializer, leaf kind.IdentifierReference (at + 4) (at + 5) (codes "x")) ∷ []))
 
 -- the parameters `(a = x)`
 abbrev pub parameters : ℕ → Node
-parameters at = plain kind.FormalParameters at (at + 7) (codes "formal") (single role.Items (parameter (at + 1)))
+parameters at = plain_node kind.FormalParameters at (at + 7) (codes "formal") (single role.Items (parameter (at + 1)))
 
 -- the declaration `var x;`
 abbrev pub variable : ℕ → Node
 variable at =
-    plain kind.VariableDeclaration at (at + 6) (codes "var")
-    (single role.Declarators (plain kind.VariableDeclarator (at + 4) (at + 5) [] (single role.Id (leaf kind.BindingIdentifier (at + 4) (at + 5) (codes "x")))))
+    plain_node kind.VariableDeclaration at (at + 6) (codes "var")
+    (single role.Declarators (plain_node kind.VariableDeclarator (at + 4) (at + 5) [] (single role.Id (leaf kind.BindingIdentifier (at + 4) (at + 5) (codes "x")))))
 
 -- the expression `x = a`
 abbrev pub expression : ℕ → Node
 expression at =
-    plain kind.AssignmentExpression at (at + 5) (codes "=")
+    plain_node kind.AssignmentExpression at (at + 5) (codes "=")
     (forest_of ((role.Left, leaf kind.IdentifierReference at (at + 1) (codes "x")) ∷ (role.Right, leaf kind.IdentifierReference (at + 4) (at + 5) (codes "a")) ∷ []))
 
 -- the statement `x = a;`
 abbrev pub assignment : ℕ → Node
-assignment at = plain kind.ExpressionStatement at (at + 6) [] (single role.Expression (expression at))
+assignment at = plain_node kind.ExpressionStatement at (at + 6) [] (single role.Expression (expression at))
 
 -- the body `{ var x; x = a; }`
 abbrev pub body : ℕ → Node
-body at = plain kind.FunctionBody at (at + 17) [] (forest_of ((role.Body, variable (at + 2)) ∷ (role.Body, assignment (at + 9)) ∷ []))
+body at = plain_node kind.FunctionBody at (at + 17) [] (forest_of ((role.Body, variable (at + 2)) ∷ (role.Body, assignment (at + 9)) ∷ []))
 
 -- a function of the name, which begins there
 abbrev pub function : ℕ → List ℕ → Node
 function at name =
-    plain kind.Function at (at + 9 + length name + 25) (codes "declaration")
+    plain_node kind.Function at (at + 9 + length name + 25) (codes "declaration")
     (forest_of ((role.Id, leaf kind.BindingIdentifier (at + 9) (at + 9 + length name) name)
     ∷ (role.Params, parameters (at + 9 + length name))
     ∷ (role.Body, body (at + 9 + length name + 8))
@@ -82,7 +82,7 @@ script source root = numbered_tree (record { source = source; source_type = reco
 
 -- the program of so many functions
 abbrev pub generated : ℕ → Tree
-generated n = script (lines n) (plain kind.Program 0 (length (lines n)) [] (functions n))
+generated n = script (lines n) (plain_node kind.Program 0 (length (lines n)) [] (functions n))
 
 -- how many functions a program may have
 abbrev pub most_functions : ℕ

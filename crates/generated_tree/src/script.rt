@@ -27,7 +27,7 @@ fn function_name(alloc: Global, number: u32) -> Result<String, AllocError>
 /// Adds the line of a function to the source.
 fn push_line(source: &mut String, name: &str) -> Result<(), AllocError>
     ensures { OnOk result (string_bytes source.new
-        ≡ string_bytes source.old ++ made.line name.now) }
+        ≡ string_bytes source.old ++ made.function_line name.now) }
 {
     source.push_str("function ")?;
     source.push_str(name)?;
@@ -56,10 +56,10 @@ fn add_function(
 ) -> Result<Node, AllocError>
     requires number { number < made.most_functions }
     requires source { string_bytes source.old ≡ made.lines number }
-    requires root { root ≡ made.plain program_kind 0 0 [] (made.functions number) }
+    requires root { root ≡ made.plain_node program_kind 0 0 [] (made.functions number) }
     ensures source { OnOk result (string_bytes source.new ≡ made.lines (number + 1)) }
     ensures root { IfOk result (λ now. now
-        ≡ made.plain program_kind 0 0 [] (made.functions (number + 1))) }
+        ≡ made.plain_node program_kind 0 0 [] (made.functions (number + 1))) }
 {
     let name = function_name(alloc, number)?;
     let at = end_of(source.as_str(), number);

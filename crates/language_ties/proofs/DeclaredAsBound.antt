@@ -14,7 +14,7 @@ use Rattle.semantic_tree.specs.Faults.{first_fault}
 use Rattle.semantic_tree.specs.Tree.{Tree}
 use Rattle.semantic_tree.specs.Views.{is, is_with_text, has, children_of}
 use Rattle.semantic_tree.specs.declared.node.Node.{Node}
-use Rattle.semantic_model.specs.Binder.{Row, declare, declare_here, is_statement, is_block_function, variable_row, variables_under, function_row, own_function_row, class_row, is_pure_declarator, ids, parameter_excluded, parameters_under, catch_names, import_flags, declared_by, declared_inside}
+use Rattle.semantic_model.specs.Binder.{BinderRow, declaration_at, declare_here, is_statement, is_block_function, variable_row, variables_under, function_row, own_function_row, class_row, is_pure_declarator, ids, parameter_excluded, parameters_under, catch_names, import_flags, declared_by, declared_inside}
 use Rattle.semantic_model.specs.Declaration.{Declaration, here}
 use Rattle.semantic_model.specs.Declaration.{plain as plain_way, caught as caught_way}
 use Rattle.semantic_model.specs.Names.{bound_names, bound_below, names_at}
@@ -24,7 +24,7 @@ use Rattle.semantic_model.specs.Place.{Place, is_strict, parent_holds}
 use Rattle.semantic_model.specs.ScopeKind.{opened_scope}
 use Rattle.semantic_model.specs.Step.{Step, entering, opening, header_ending, closing, leaving, steps}
 use Rattle.tangle_model.specs.Surroundings.{in_with_under}
-use Rattle.language_ties.specs.Bound.{Bound, bound_in, bound_here, bound_outward, bound_by_declarator, bound_by_declaration, bound_by_catch, bound_by}
+use Rattle.language_ties.specs.Bound.{Bound, bound_identifier, bound_here, bound_outward, bound_by_declarator, bound_by_declaration, bound_by_catch, bound_by_node}
 use Rattle.language_ties.specs.Bound as language
 use Rattle.language_ties.specs.ToldNames.{Told, told_by_declaration, told_by_bound, may_leave_block, DeclaresAsBound, Declares, DeclarationsAreBound}
 use Rattle.language_ties.specs.EcmaScript.{is_ecmascript_kind, is_ecmascript}
@@ -58,7 +58,7 @@ module _ (s : SourceType) (p : Place) (w : in_with_under p.path ≡ false) (know
 
   names_here : IsPlain p.node p.path → (flags excluded : ℕ) (b : BoundAs) (names : List Node) → map told_by_declaration (declare_here p flags excluded names) ≡ map told_by_bound (map (bound_here b (environments p.node p.path)) names)
   names_here plain flags excluded b names =
-      same_told (declare p.node (record { flags = flags; excluded = excluded; how = plain_way; route = here p.chain }) false) (bound_here b (environments p.node p.path)) names (λ id. ap (told id) (stands_here plain))
+      same_told (declaration_at p.node (record { flags = flags; excluded = excluded; how = plain_way; route = here p.chain }) false) (bound_here b (environments p.node p.path)) names (λ id. ap (told id) (stands_here plain))
 
   variables : IsPlain p.node p.path → (path : List Node) → p.path ≡ path → map told_by_declaration (variables_under path p) ≡ map told_by_bound (bound_by_declarator p.node path)
   variables plain [] e = refl
@@ -70,9 +70,9 @@ module _ (s : SourceType) (p : Place) (w : in_with_under p.path ≡ false) (know
       inside : (place.innermost p.chain).opener ≡ (innermost (environments p.node (declaration ∷ path))).maker
       inside = subst (λ q. (place.innermost p.chain).opener ≡ (innermost (environments p.node q)).maker) e (stands_here plain)
 
-      go : (b : Bool) → is_with_text kind.VariableDeclaration (codes "var") declaration ≡ b → map told_by_declaration (map (declare p.node (variable_row declaration p.chain) (is_pure_declarator p.node)) (bound_names p.node)) ≡ map told_by_bound (map (cond b (bound_outward (environments p.node (declaration ∷ path))) (bound_here bound.Lexical (environments p.node (declaration ∷ path)))) (bound_names p.node))
-      go true q = same_told (declare p.node (variable_row declaration p.chain) (is_pure_declarator p.node)) (bound_outward (environments p.node (declaration ∷ path))) (bound_names p.node) (λ id. rw q (ap (told id) (out _ (variables_made p.chain p.node p.path (known.round w) plain))))
-      go false q = same_told (declare p.node (variable_row declaration p.chain) (is_pure_declarator p.node)) (bound_here bound.Lexical (environments p.node (declaration ∷ path))) (bound_names p.node) (λ id. rw q (ap (told id) inside))
+      go : (b : Bool) → is_with_text kind.VariableDeclaration (codes "var") declaration ≡ b → map told_by_declaration (map (declaration_at p.node (variable_row declaration p.chain) (is_pure_declarator p.node)) (bound_names p.node)) ≡ map told_by_bound (map (cond b (bound_outward (environments p.node (declaration ∷ path))) (bound_here bound.Lexical (environments p.node (declaration ∷ path)))) (bound_names p.node))
+      go true q = same_told (declaration_at p.node (variable_row declaration p.chain) (is_pure_declarator p.node)) (bound_outward (environments p.node (declaration ∷ path))) (bound_names p.node) (λ id. rw q (ap (told id) (out _ (variables_made p.chain p.node p.path (known.round w) plain))))
+      go false q = same_told (declaration_at p.node (variable_row declaration p.chain) (is_pure_declarator p.node)) (bound_here bound.Lexical (environments p.node (declaration ∷ path))) (bound_names p.node) (λ id. rw q (ap (told id) inside))
 
   parameters : IsPlain p.node p.path → (path : List Node) → (path ≡ [] → ⊥) → map told_by_declaration (parameters_under path p) ≡ map told_by_bound (map (bound_here bound.Parameter (environments p.node p.path)) (bound_names p.node))
   parameters plain [] e = absurd (e refl)
@@ -85,10 +85,10 @@ module _ (s : SourceType) (p : Place) (w : in_with_under p.path ≡ false) (know
       ∙ (λ i. one i ++ catches plain xs i)
       ∙ sym (map-append told_by_bound (bound_by_catch (environments p.node p.path) x) (flat_map (bound_by_catch (environments p.node p.path)) xs))
     where
-      row : Row
+      row : BinderRow
       row = record { flags = union symbol.FunctionScopedVariable.bits symbol.CatchVariable.bits; excluded = 0; how = caught_way; route = here p.chain }
 
-      go : (b : Bool) → map told_by_declaration (if b then declare p.node row false x ∷ [] else declare_here p (union symbol.BlockScopedVariable.bits symbol.CatchVariable.bits) symbol.BlockScopedVariableExcludes.bits (cond b (x ∷ []) (bound_below x.kind x.children)))
+      go : (b : Bool) → map told_by_declaration (if b then declaration_at p.node row false x ∷ [] else declare_here p (union symbol.BlockScopedVariable.bits symbol.CatchVariable.bits) symbol.BlockScopedVariableExcludes.bits (cond b (x ∷ []) (bound_below x.kind x.children)))
           ≡ map told_by_bound (map (bound_here (cond b bound.CatchName bound.Lexical) (environments p.node p.path)) (cond b (x ∷ []) (bound_below x.kind x.children)))
       go true = λ i. told x (stands_here plain i) ∷ []
       go false = names_here plain (union symbol.BlockScopedVariable.bits symbol.CatchVariable.bits) symbol.BlockScopedVariableExcludes.bits bound.Lexical (bound_below x.kind x.children)
@@ -101,32 +101,32 @@ module _ (s : SourceType) (p : Place) (w : in_with_under p.path ≡ false) (know
   Stays = is_statement p.node ≡ true → (is_block_function p ≡ false) × (language.is_block_function s p.node p.path ≡ false) × (is_made_for environment.IfBody (innermost (environments p.node p.path)) ≡ false)
 
   functions_told : Stays
-      → map told_by_declaration (cond (is_statement p.node) [] (map (declare p.node (own_function_row p (opened_scope p 0)) (has mark.Pure p.node)) (ids p.node)) ++ cond (is_statement p.node) (map (declare p.node (function_row p) (has mark.Pure p.node)) (ids p.node)) [])
-      ≡ map told_by_bound (bound_by kind.Function s p.node p.path)
+      → map told_by_declaration (cond (is_statement p.node) [] (map (declaration_at p.node (own_function_row p (opened_scope p 0)) (has mark.Pure p.node)) (ids p.node)) ++ cond (is_statement p.node) (map (declaration_at p.node (function_row p) (has mark.Pure p.node)) (ids p.node)) [])
+      ≡ map told_by_bound (bound_by_node kind.Function s p.node p.path)
   functions_told stays = go (is_statement p.node) refl
     where
       go : (b : Bool) → is_statement p.node ≡ b
-          → map told_by_declaration (cond b [] (map (declare p.node (own_function_row p (opened_scope p 0)) (has mark.Pure p.node)) (ids p.node)) ++ cond b (map (declare p.node (function_row p) (has mark.Pure p.node)) (ids p.node)) [])
-          ≡ map told_by_bound (map (cond b (bound_by_declaration s p.node p.path) (bound_in bound.OwnName (record { kind = environment.OwnName; maker = p.node.node_id }) [] [])) (ids p.node))
-      go false e = same_told_last (declare p.node (own_function_row p (opened_scope p 0)) (has mark.Pure p.node)) (bound_in bound.OwnName (record { kind = environment.OwnName; maker = p.node.node_id }) [] []) (ids p.node) (λ id. refl)
+          → map told_by_declaration (cond b [] (map (declaration_at p.node (own_function_row p (opened_scope p 0)) (has mark.Pure p.node)) (ids p.node)) ++ cond b (map (declaration_at p.node (function_row p) (has mark.Pure p.node)) (ids p.node)) [])
+          ≡ map told_by_bound (map (cond b (bound_by_declaration s p.node p.path) (bound_identifier bound.OwnName (record { kind = environment.OwnName; maker = p.node.node_id }) [] [])) (ids p.node))
+      go false e = same_told_last (declaration_at p.node (own_function_row p (opened_scope p 0)) (has mark.Pure p.node)) (bound_identifier bound.OwnName (record { kind = environment.OwnName; maker = p.node.node_id }) [] []) (ids p.node) (λ id. refl)
       go true e =
           let (tables, ours, no_body) = stays e in
           let made : maker_of_scope (place.innermost p.chain) ≡ maker_of_environment (innermost (environments p.node p.path)) = innermost_made p.chain p.node p.path (known.round w) (inr no_body) in
-          same_told (declare p.node (function_row p) (has mark.Pure p.node)) (bound_by_declaration s p.node p.path) (ids p.node) (λ id. rw (tables, ours) (ap (λ m. told id m.node) made))
+          same_told (declaration_at p.node (function_row p) (has mark.Pure p.node)) (bound_by_declaration s p.node p.path) (ids p.node) (λ id. rw (tables, ours) (ap (λ m. told id m.node) made))
 
   functions : p.node.kind ≡ kind.Function → may_leave_block s p.node p.path ≡ false
-      → map told_by_declaration (cond (is_statement p.node) [] (map (declare p.node (own_function_row p (opened_scope p 0)) (has mark.Pure p.node)) (ids p.node)) ++ cond (is_statement p.node) (map (declare p.node (function_row p) (has mark.Pure p.node)) (ids p.node)) [])
-      ≡ map told_by_bound (bound_by kind.Function s p.node p.path)
+      → map told_by_declaration (cond (is_statement p.node) [] (map (declaration_at p.node (own_function_row p (opened_scope p 0)) (has mark.Pure p.node)) (ids p.node)) ++ cond (is_statement p.node) (map (declaration_at p.node (function_row p) (has mark.Pure p.node)) (ids p.node)) [])
+      ≡ map told_by_bound (bound_by_node kind.Function s p.node p.path)
   functions k h = functions_told (λ e. let stays : StaysInBlock s p.node p.path = stays_in_block s p.node p.path k e h in (stays_there s p known w strict k stays, stays.ours, stays.no_body))
 
-  classes : IsPlain p.node p.path → map told_by_declaration (cond (is_statement p.node) [] (map (declare p.node (class_row p (opened_scope p 0 ∷ [])) false) (ids p.node)) ++ cond (is_statement p.node) (map (declare p.node (class_row p p.chain) false) (ids p.node)) [])
-      ≡ map told_by_bound (bound_by kind.Class s p.node p.path)
+  classes : IsPlain p.node p.path → map told_by_declaration (cond (is_statement p.node) [] (map (declaration_at p.node (class_row p (opened_scope p 0 ∷ [])) false) (ids p.node)) ++ cond (is_statement p.node) (map (declaration_at p.node (class_row p p.chain) false) (ids p.node)) [])
+      ≡ map told_by_bound (bound_by_node kind.Class s p.node p.path)
   classes plain = go (is_statement p.node)
     where
-      go : (b : Bool) → map told_by_declaration (cond b [] (map (declare p.node (class_row p (opened_scope p 0 ∷ [])) false) (ids p.node)) ++ cond b (map (declare p.node (class_row p p.chain) false) (ids p.node)) [])
-          ≡ map told_by_bound (map (cond b (bound_in bound.Lexical (innermost (environments p.node p.path)) (record { kind = environment.Class; maker = p.node.node_id } ∷ []) []) (bound_in bound.OwnName (record { kind = environment.Class; maker = p.node.node_id }) [] [])) (ids p.node))
-      go true = same_told (declare p.node (class_row p p.chain) false) (bound_in bound.Lexical (innermost (environments p.node p.path)) (record { kind = environment.Class; maker = p.node.node_id } ∷ []) []) (ids p.node) (λ id. ap (told id) (stands_here plain))
-      go false = same_told_last (declare p.node (class_row p (opened_scope p 0 ∷ [])) false) (bound_in bound.OwnName (record { kind = environment.Class; maker = p.node.node_id }) [] []) (ids p.node) (λ id. refl)
+      go : (b : Bool) → map told_by_declaration (cond b [] (map (declaration_at p.node (class_row p (opened_scope p 0 ∷ [])) false) (ids p.node)) ++ cond b (map (declaration_at p.node (class_row p p.chain) false) (ids p.node)) [])
+          ≡ map told_by_bound (map (cond b (bound_identifier bound.Lexical (innermost (environments p.node p.path)) (record { kind = environment.Class; maker = p.node.node_id } ∷ []) []) (bound_identifier bound.OwnName (record { kind = environment.Class; maker = p.node.node_id }) [] [])) (ids p.node))
+      go true = same_told (declaration_at p.node (class_row p p.chain) false) (bound_identifier bound.Lexical (innermost (environments p.node p.path)) (record { kind = environment.Class; maker = p.node.node_id } ∷ []) []) (ids p.node) (λ id. ap (told id) (stands_here plain))
+      go false = same_told_last (declaration_at p.node (class_row p (opened_scope p 0 ∷ [])) false) (bound_identifier bound.OwnName (record { kind = environment.Class; maker = p.node.node_id }) [] []) (ids p.node) (λ id. refl)
 
   not_function : (k : AstType) → p.node.kind ≡ k → same_kind k kind.Function ≡ false → IsPlain p.node p.path
   not_function k e h = inl (ap (λ b. b && is_statement p.node) (ap (λ q. same_kind q kind.Function) e ∙ h))
@@ -135,7 +135,7 @@ module _ (s : SourceType) (p : Place) (w : in_with_under p.path ≡ false) (know
   no_root k e n h = n (sym e ∙ known.rooted h)
 
   by_kind : (k : AstType) → p.node.kind ≡ k → is_ecmascript_kind k ≡ true → may_leave_block s p.node p.path ≡ false → is_bare_rest p.node p.path ≡ false
-      → map told_by_declaration (declared_inside k p (opened_scope p 0) ++ declared_by k p) ≡ map told_by_bound (bound_by k s p.node p.path)
+      → map told_by_declaration (declared_inside k p (opened_scope p 0) ++ declared_by k p) ≡ map told_by_bound (bound_by_node k s p.node p.path)
   by_kind kind.VariableDeclarator k j h r = variables (not_function kind.VariableDeclarator k refl) p.path refl
   by_kind kind.Function k j h r = functions k h
   by_kind kind.Class k j h r = classes (not_function kind.Class k refl)

@@ -25,7 +25,7 @@ use Rattle.semantic_model.specs.Place.{Place, OpenScope, outside, is_strict}
 use Rattle.semantic_model.specs.Inside.{is_inside, is_in_header, is_parameter_decorator}
 use Rattle.semantic_model.specs.ScopeKind.{strict_if, accessor, value_of, method_flags, flags_of_kind, opened_scope}
 use Rattle.semantic_model.specs.Cursor.{on_entering}
-use Rattle.semantic_model.specs.Step.{Step, entering, opening, header_ending, closing, leaving, steps_below, steps, root_place, scope_at, child_place, chain_within}
+use Rattle.semantic_model.specs.Step.{Step, entering, opening, header_ending, closing, leaving, steps_below, steps, root_place, scope_at, child_place, child_scopes}
 use Rattle.semantic_model.proofs.steps.Turn.{Turn, turn_at}
 use Rattle.semantic_model.proofs.steps.TurnCases.{opening_case, ending_case, last_case}
 use Rattle.semantic_model.proofs.steps.EachStep.{EachStep, each_of_node, each_of_turn}
@@ -174,7 +174,7 @@ record IsFitChild (p : Place) (r : Role) (node : Node) : Type 0 where
 
 -- the child's chain, where its parent's scope is open if the child is inside
 module _ (p : Place) (r : Role) (node : Node) (fit : IsFitChild p r node) where
-  within_makers : (own : Option OpenScope) → (is_inside p.node.kind r ≡ true → own ≡ None → ⊥) → OwnMaker p own → map maker_of_scope (chain_within p r own) ≡ with_maker p.node.kind r p.node (map maker_of_scope p.chain)
+  within_makers : (own : Option OpenScope) → (is_inside p.node.kind r ≡ true → own ≡ None → ⊥) → OwnMaker p own → map maker_of_scope (child_scopes p r own) ≡ with_maker p.node.kind r p.node (map maker_of_scope p.chain)
   within_makers (Some s) is_open o = go (is_inside p.node.kind r)
     where
       go : (b : Bool) → map maker_of_scope (cond b (record s { in_header = is_in_header p.node.kind r } ∷ p.chain) p.chain) ≡ cond b (record { node = p.node.node_id; takes_variables = takes p.node.kind } ∷ map maker_of_scope p.chain) (map maker_of_scope p.chain)
@@ -189,7 +189,7 @@ module _ (p : Place) (r : Role) (node : Node) (fit : IsFitChild p r node) where
   chain_makers : (own : Option OpenScope) (cursor : ℕ) → (is_inside p.node.kind r ≡ true → own ≡ None → ⊥) → OwnMaker p own → map maker_of_scope (child_place p own cursor r node).chain ≡ with_maker p.node.kind r p.node (map maker_of_scope p.chain)
   chain_makers own cursor is_open o =
       let q : is_parameter_decorator p.node.kind r ≡ false = rw fit.undecorated (and_false _) in
-      subst (λ b. map maker_of_scope (cond b (outside p.chain) (chain_within p r own)) ≡ with_maker p.node.kind r p.node (map maker_of_scope p.chain)) (sym q) (within_makers own is_open o)
+      subst (λ b. map maker_of_scope (cond b (outside p.chain) (child_scopes p r own)) ≡ with_maker p.node.kind r p.node (map maker_of_scope p.chain)) (sym q) (within_makers own is_open o)
 
   child_has : (own : Option OpenScope) (cursor : ℕ) → (is_inside p.node.kind r ≡ true → own ≡ None → ⊥) → OwnMaker p own → HasItsEnvironments p → HasItsEnvironments (child_place p own cursor r node)
   child_has own cursor is_open o h = λ w. go (is kind.WithStatement p.node) refl w

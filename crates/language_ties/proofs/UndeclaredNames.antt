@@ -14,12 +14,12 @@ use Rattle.semantic_tree.specs.Forest.{Forest, nothing, tree}
 use Rattle.semantic_tree.specs.Tree.{Tree}
 use Rattle.semantic_tree.specs.Views.{is, is_with_text, has, children_of}
 use Rattle.semantic_tree.specs.declared.node.Node.{Node}
-use Rattle.semantic_model.specs.Binder.{Row, declare, is_statement, variable_row, variables_under, is_pure_declarator, function_row, own_function_row, class_row, parameter_excluded, parameters_under, import_flags, catch_names, ids, declared_by, declared_inside, declared_on_entering, declared_on_opening}
+use Rattle.semantic_model.specs.Binder.{BinderRow, declaration_at, is_statement, variable_row, variables_under, is_pure_declarator, function_row, own_function_row, class_row, parameter_excluded, parameters_under, import_flags, catch_names, ids, declared_by, declared_inside, declared_on_entering, declared_on_opening}
 use Rattle.semantic_model.specs.Cursor.{on_entering}
 use Rattle.semantic_model.specs.Declaration.{Declaration, How, plain, hoisted, moved, caught, here}
 use Rattle.semantic_model.specs.EachStep.{EachStep}
 use Rattle.semantic_model.specs.Entries.{Among}
-use Rattle.semantic_model.specs.Event.{Event, declares, takes_over, declared, declared_at, declarations, events, events_of, declares_all, is_barred, staying, placed, placed_by, taken_over, is_catch_body, written_declarations}
+use Rattle.semantic_model.specs.Event.{Event, declares, takes_over, declared, declared_at, declarations, events, events_of, declares_all, is_barred, staying_declaration, placed, placed_by, taken_over, is_catch_body, written_declarations}
 use Rattle.semantic_model.specs.Fits.{DeclaredAs}
 use Rattle.semantic_model.specs.NodeTable.{node_tables}
 use Rattle.semantic_model.specs.Names.{bound_names, bound_below, names_at}
@@ -39,7 +39,7 @@ use Rattle.semantic_model.proofs.steps.TurnCases.{opening_case, ending_case, las
 use Rattle.program_laws.specs.SymbolNames.{IsNamed}
 use Rattle.program_laws.proofs.DeclaredNodes.{among_map, among_flat}
 use Rattle.program_laws.proofs.TiedNames.{ties_have_names}
-use Rattle.language_ties.specs.Bound.{Bound, bound_in, bound_here, bound_outward, bound_by_declarator, bound_by_declaration, bound_by_catch, bound_by, written}
+use Rattle.language_ties.specs.Bound.{Bound, bound_identifier, bound_here, bound_outward, bound_by_declarator, bound_by_declaration, bound_by_catch, bound_by_node, written}
 use Rattle.language_ties.specs.Bound as language
 use Rattle.language_ties.specs.EcmaScript.{is_ecmascript_kind, is_ecmascript}
 use Rattle.language_ties.specs.Environments.{Environment, same_environment, environments, innermost, passed, variable_environment}
@@ -84,11 +84,11 @@ module _ (s : SourceType) (p : Place) (own : OpenScope) where
   variable_names (declaration ∷ path) =
       let es : List Environment = environments p.node (declaration ∷ path) in
       let b : Bool = is_with_text kind.VariableDeclaration (codes "var") declaration in
-      same_names (declare p.node (variable_row declaration p.chain) (is_pure_declarator p.node)) (cond b (bound_outward es) (bound_here bound.Lexical es)) (bound_names p.node) (λ id. either_name b (bound_outward es) (bound_here bound.Lexical es) id refl refl)
+      same_names (declaration_at p.node (variable_row declaration p.chain) (is_pure_declarator p.node)) (cond b (bound_outward es) (bound_here bound.Lexical es)) (bound_names p.node) (λ id. either_name b (bound_outward es) (bound_here bound.Lexical es) id refl refl)
 
   parameter_names : (path : List Node) → (path ≡ [] → ⊥) → map named_by_declaration (parameters_under path p) ≡ map named_by_bound (map (bound_here bound.Parameter (environments p.node p.path)) (bound_names p.node))
   parameter_names [] e = absurd (e refl)
-  parameter_names (list ∷ path) e = same_names (declare p.node (record { flags = symbol.FunctionScopedVariable.bits; excluded = parameter_excluded list p.chain; how = plain; route = here p.chain }) false) (bound_here bound.Parameter (environments p.node p.path)) (bound_names p.node) (λ id. refl)
+  parameter_names (list ∷ path) e = same_names (declaration_at p.node (record { flags = symbol.FunctionScopedVariable.bits; excluded = parameter_excluded list p.chain; how = plain; route = here p.chain }) false) (bound_here bound.Parameter (environments p.node p.path)) (bound_names p.node) (λ id. refl)
 
   catch_clause_names : (patterns : List Node) → map named_by_declaration (flat_map (catch_names p) patterns) ≡ map named_by_bound (flat_map (bound_by_catch (environments p.node p.path)) patterns)
   catch_clause_names [] = refl
@@ -97,39 +97,39 @@ module _ (s : SourceType) (p : Place) (own : OpenScope) where
       ∙ (λ i. go (is kind.BindingIdentifier x) i ++ catch_clause_names xs i)
       ∙ sym (map-append named_by_bound (bound_by_catch (environments p.node p.path) x) (flat_map (bound_by_catch (environments p.node p.path)) xs))
     where
-      row : Row
+      row : BinderRow
       row = record { flags = union symbol.FunctionScopedVariable.bits symbol.CatchVariable.bits; excluded = 0; how = caught; route = here p.chain }
 
-      lexical : Row
+      lexical : BinderRow
       lexical = record { flags = union symbol.BlockScopedVariable.bits symbol.CatchVariable.bits; excluded = symbol.BlockScopedVariableExcludes.bits; how = plain; route = here p.chain }
 
-      go : (b : Bool) → map named_by_declaration (if b then declare p.node row false x ∷ [] else map (declare p.node lexical false) (cond b (x ∷ []) (bound_below x.kind x.children)))
+      go : (b : Bool) → map named_by_declaration (if b then declaration_at p.node row false x ∷ [] else map (declaration_at p.node lexical false) (cond b (x ∷ []) (bound_below x.kind x.children)))
           ≡ map named_by_bound (map (bound_here (cond b bound.CatchName bound.Lexical) (environments p.node p.path)) (cond b (x ∷ []) (bound_below x.kind x.children)))
       go true = refl
-      go false = same_names (declare p.node lexical false) (bound_here bound.Lexical (environments p.node p.path)) (bound_below x.kind x.children) (λ id. refl)
+      go false = same_names (declaration_at p.node lexical false) (bound_here bound.Lexical (environments p.node p.path)) (bound_below x.kind x.children) (λ id. refl)
 
-  function_names : map named_by_declaration (declared_inside kind.Function p own ++ declared_by kind.Function p) ≡ map named_by_bound (bound_by kind.Function s p.node p.path)
+  function_names : map named_by_declaration (declared_inside kind.Function p own ++ declared_by kind.Function p) ≡ map named_by_bound (bound_by_node kind.Function s p.node p.path)
   function_names = go (is_statement p.node)
     where
       es : List Environment
       es = environments p.node p.path
 
-      go : (b : Bool) → map named_by_declaration (cond b [] (map (declare p.node (own_function_row p own) (has mark.Pure p.node)) (ids p.node)) ++ cond b (map (declare p.node (function_row p) (has mark.Pure p.node)) (ids p.node)) [])
-          ≡ map named_by_bound (map (cond b (bound_by_declaration s p.node p.path) (bound_in bound.OwnName (record { kind = environment.OwnName; maker = p.node.node_id }) [] [])) (ids p.node))
-      go true = same_names (declare p.node (function_row p) (has mark.Pure p.node)) (bound_by_declaration s p.node p.path) (ids p.node)
-          (λ id. either_bound (language.is_block_function s p.node p.path) (bound_in bound.Function (innermost es) (variable_environment es ∷ []) (passed es) id) (bound_here bound.Function es id) (named id) refl refl)
-      go false = same_names_last (declare p.node (own_function_row p own) (has mark.Pure p.node)) (bound_in bound.OwnName (record { kind = environment.OwnName; maker = p.node.node_id }) [] []) (ids p.node) (λ id. refl)
+      go : (b : Bool) → map named_by_declaration (cond b [] (map (declaration_at p.node (own_function_row p own) (has mark.Pure p.node)) (ids p.node)) ++ cond b (map (declaration_at p.node (function_row p) (has mark.Pure p.node)) (ids p.node)) [])
+          ≡ map named_by_bound (map (cond b (bound_by_declaration s p.node p.path) (bound_identifier bound.OwnName (record { kind = environment.OwnName; maker = p.node.node_id }) [] [])) (ids p.node))
+      go true = same_names (declaration_at p.node (function_row p) (has mark.Pure p.node)) (bound_by_declaration s p.node p.path) (ids p.node)
+          (λ id. either_bound (language.is_block_function s p.node p.path) (bound_identifier bound.Function (innermost es) (variable_environment es ∷ []) (passed es) id) (bound_here bound.Function es id) (named id) refl refl)
+      go false = same_names_last (declaration_at p.node (own_function_row p own) (has mark.Pure p.node)) (bound_identifier bound.OwnName (record { kind = environment.OwnName; maker = p.node.node_id }) [] []) (ids p.node) (λ id. refl)
 
-  class_names : map named_by_declaration (declared_inside kind.Class p own ++ declared_by kind.Class p) ≡ map named_by_bound (bound_by kind.Class s p.node p.path)
+  class_names : map named_by_declaration (declared_inside kind.Class p own ++ declared_by kind.Class p) ≡ map named_by_bound (bound_by_node kind.Class s p.node p.path)
   class_names = go (is_statement p.node)
     where
-      go : (b : Bool) → map named_by_declaration (cond b [] (map (declare p.node (class_row p (own ∷ [])) false) (ids p.node)) ++ cond b (map (declare p.node (class_row p p.chain) false) (ids p.node)) [])
-          ≡ map named_by_bound (map (cond b (bound_in bound.Lexical (innermost (environments p.node p.path)) (record { kind = environment.Class; maker = p.node.node_id } ∷ []) []) (bound_in bound.OwnName (record { kind = environment.Class; maker = p.node.node_id }) [] [])) (ids p.node))
-      go true = same_names (declare p.node (class_row p p.chain) false) (bound_in bound.Lexical (innermost (environments p.node p.path)) (record { kind = environment.Class; maker = p.node.node_id } ∷ []) []) (ids p.node) (λ id. refl)
-      go false = same_names_last (declare p.node (class_row p (own ∷ [])) false) (bound_in bound.OwnName (record { kind = environment.Class; maker = p.node.node_id }) [] []) (ids p.node) (λ id. refl)
+      go : (b : Bool) → map named_by_declaration (cond b [] (map (declaration_at p.node (class_row p (own ∷ [])) false) (ids p.node)) ++ cond b (map (declaration_at p.node (class_row p p.chain) false) (ids p.node)) [])
+          ≡ map named_by_bound (map (cond b (bound_identifier bound.Lexical (innermost (environments p.node p.path)) (record { kind = environment.Class; maker = p.node.node_id } ∷ []) []) (bound_identifier bound.OwnName (record { kind = environment.Class; maker = p.node.node_id }) [] [])) (ids p.node))
+      go true = same_names (declaration_at p.node (class_row p p.chain) false) (bound_identifier bound.Lexical (innermost (environments p.node p.path)) (record { kind = environment.Class; maker = p.node.node_id } ∷ []) []) (ids p.node) (λ id. refl)
+      go false = same_names_last (declaration_at p.node (class_row p (own ∷ [])) false) (bound_identifier bound.OwnName (record { kind = environment.Class; maker = p.node.node_id }) [] []) (ids p.node) (λ id. refl)
 
-  import_names : map named_by_declaration (declared_by kind.ImportSpecifier p) ≡ map named_by_bound (bound_by kind.ImportSpecifier s p.node p.path)
-  import_names = same_names (declare p.node (record { flags = import_flags p; excluded = symbol.ImportBindingExcludes.bits; how = plain; route = here p.chain }) false) (bound_here bound.Lexical (environments p.node p.path)) (names_at role.Local p.node) (λ id. refl)
+  import_names : map named_by_declaration (declared_by kind.ImportSpecifier p) ≡ map named_by_bound (bound_by_node kind.ImportSpecifier s p.node p.path)
+  import_names = same_names (declaration_at p.node (record { flags = import_flags p; excluded = symbol.ImportBindingExcludes.bits; how = plain; route = here p.chain }) false) (bound_here bound.Lexical (environments p.node p.path)) (names_at role.Local p.node) (λ id. refl)
 
   no_rest : (b : Bool) (ds : List Declaration) → b ≡ false → map named_by_declaration (cond b ds []) ≡ []
   no_rest true ds e = absurd cc
@@ -139,7 +139,7 @@ module _ (s : SourceType) (p : Place) (own : OpenScope) where
   not_root k e n h q = n (sym e ∙ h q)
 
   names_by : (k : AstType) → p.node.kind ≡ k → is_ecmascript_kind k ≡ true → is_bare_rest p.node p.path ≡ false → (p.path ≡ [] → p.node.kind ≡ kind.Program)
-      → map named_by_declaration (declared_inside k p own ++ declared_by k p) ≡ map named_by_bound (bound_by k s p.node p.path)
+      → map named_by_declaration (declared_inside k p own ++ declared_by k p) ≡ map named_by_bound (bound_by_node k s p.node p.path)
   names_by kind.VariableDeclarator k j r u = variable_names p.path
   names_by kind.Function k j r u = function_names
   names_by kind.Class k j r u = class_names
@@ -174,7 +174,7 @@ among_names (x ∷ ds) (y ∷ bs) h d (inr a) =
 module _ (s : SourceType) (x : Name) (Q : ℕ → Type 0) where
   -- of the identifiers of the name, as they are bound and as they are declared
   abbrev Unbound : Place → Type 0
-  Unbound p = (b : Bound) → Among b (bound_by p.node.kind s p.node p.path) → b.name ≡ x → Q b.identifier
+  Unbound p = (b : Bound) → Among b (bound_by_node p.node.kind s p.node p.path) → b.name ≡ x → Q b.identifier
 
   abbrev UnboundAt : Step → Type 0
   UnboundAt (entering p) = Unbound p
@@ -188,7 +188,7 @@ module _ (s : SourceType) (x : Name) (Q : ℕ → Type 0) where
 
   place_undeclared : (p : Place) (own : OpenScope) → IsKnown p → Unbound p → (d : Declaration) → Among d (declared_on_opening p own ++ declared_on_entering p) → d.naming.name ≡ x → Q d.naming.identifier
   place_undeclared p own k u d a h =
-      let (b, c, e) = among_names (declared_on_opening p own ++ declared_on_entering p) (bound_by p.node.kind s p.node p.path) (names_by s p own p.node.kind refl k.ecmascript k.whole k.rooted) d a in
+      let (b, c, e) = among_names (declared_on_opening p own ++ declared_on_entering p) (bound_by_node p.node.kind s p.node p.path) (names_by s p own p.node.kind refl k.ecmascript k.whole k.rooted) d a in
       subst Q (ap (λ n. n.identifier) e) (u b c (ap (λ n. n.name) e ∙ h))
 
   on_opening : (p : Place) (n : ℕ) → IsKnown p → Unbound p → Undeclared (opening p (opened_scope p n))
@@ -223,7 +223,7 @@ module _ (s : SourceType) (x : Name) (Q : ℕ → Type 0) where
   placed_naming caught ds d = refl
   placed_naming moved ds d = go (is_barred ds d (outside d.route.passed))
     where
-      go : (b : Bool) → (if b then staying d else d).naming ≡ d.naming
+      go : (b : Bool) → (if b then staying_declaration d else d).naming ≡ d.naming
       go true = refl
       go false = refl
 
@@ -267,7 +267,7 @@ module _ (s : SourceType) (x : Name) (Q : ℕ → Type 0) where
 
   each_unbound : (ss : List Step) → ((b : Bound) → Among b (written s ss) → b.name ≡ x → Q b.identifier) → EachStep UnboundAt ss
   each_unbound [] h = tt
-  each_unbound (entering p ∷ ss) h = ((λ b a e. h b (among_left b (bound_by p.node.kind s p.node p.path) (written s ss) a) e), each_unbound ss (λ b a e. h b (among_right b (bound_by p.node.kind s p.node p.path) (written s ss) a) e))
+  each_unbound (entering p ∷ ss) h = ((λ b a e. h b (among_left b (bound_by_node p.node.kind s p.node p.path) (written s ss) a) e), each_unbound ss (λ b a e. h b (among_right b (bound_by_node p.node.kind s p.node p.path) (written s ss) a) e))
   each_unbound (opening p o ∷ ss) h = (tt, each_unbound ss h)
   each_unbound (header_ending p o ∷ ss) h = (tt, each_unbound ss h)
   each_unbound (closing p o ∷ ss) h = (tt, each_unbound ss h)

@@ -37,17 +37,17 @@ pub record Bound : Type 0 where
 abbrev pub is_bound_as : BoundAs → Bound → Bool
 is_bound_as w b = same_way b.sort w
 
-abbrev pub bound_in : BoundAs → Environment → List Environment → List Environment → Node → Bound
-bound_in w e also between id =
+abbrev pub bound_identifier : BoundAs → Environment → List Environment → List Environment → Node → Bound
+bound_identifier w e also between id =
     record { sort = w; identifier = id.node_id; name = id.text; environment = e; also = also; passed = between }
 
 -- in the environment where the node stands
 abbrev pub bound_here : BoundAs → List Environment → Node → Bound
-bound_here w es id = bound_in w (innermost es) [] [] id
+bound_here w es id = bound_identifier w (innermost es) [] [] id
 
 -- where variables go
 abbrev pub bound_outward : List Environment → Node → Bound
-bound_outward es id = bound_in bound.Var (variable_environment es) [] (passed es) id
+bound_outward es id = bound_identifier bound.Var (variable_environment es) [] (passed es) id
 
 -- what makes the code in it strict: a class, or a directive (11.2.2)
 abbrev pub makes_strict : Node → Bool
@@ -75,17 +75,17 @@ is_block_function s x path =
 abbrev pub bound_by_declaration : SourceType → Node → List Node → Node → Bound
 bound_by_declaration s x path id =
     let es : List Environment = environments x path in
-    cond (is_block_function s x path) (bound_in bound.Function (innermost es) (variable_environment es ∷ []) (passed es) id) (bound_here bound.Function es id)
+    cond (is_block_function s x path) (bound_identifier bound.Function (innermost es) (variable_environment es ∷ []) (passed es) id) (bound_here bound.Function es id)
 
 abbrev pub bound_by_function : SourceType → Node → List Node → List Bound
 bound_by_function s x path =
-    map (cond (is_statement x) (bound_by_declaration s x path) (bound_in bound.OwnName (made_for environment.OwnName x) [] [])) (names_at role.Id x)
+    map (cond (is_statement x) (bound_by_declaration s x path) (bound_identifier bound.OwnName (made_for environment.OwnName x) [] [])) (names_at role.Id x)
 
 abbrev pub bound_by_class : Node → List Node → List Bound
 bound_by_class x path =
     map (cond (is_statement x)
-    (bound_in bound.Lexical (innermost (environments x path)) (made_for environment.Class x ∷ []) [])
-    (bound_in bound.OwnName (made_for environment.Class x) [] [])) (names_at role.Id x)
+    (bound_identifier bound.Lexical (innermost (environments x path)) (made_for environment.Class x ∷ []) [])
+    (bound_identifier bound.OwnName (made_for environment.Class x) [] [])) (names_at role.Id x)
 
 -- the name, or the names of a pattern, of a catch clause
 abbrev pub bound_by_catch : List Environment → Node → List Bound
@@ -93,20 +93,20 @@ bound_by_catch es pattern =
     map (bound_here (cond (is kind.BindingIdentifier pattern) bound.CatchName bound.Lexical) es) (bound_names pattern)
 
 -- what a node of the kind binds
-abbrev pub bound_by : AstType → SourceType → Node → List Node → List Bound
-bound_by kind.VariableDeclarator s x path = bound_by_declarator x path
-bound_by kind.Function s x path = bound_by_function s x path
-bound_by kind.Class s x path = bound_by_class x path
-bound_by kind.FormalParameter s x path = map (bound_here bound.Parameter (environments x path)) (bound_names x)
-bound_by kind.FormalParameterRest s x path = map (bound_here bound.Parameter (environments x path)) (bound_names x)
-bound_by kind.CatchParameter s x path = flat_map (bound_by_catch (environments x path)) (children_of role.Pattern x.children)
-bound_by kind.ImportSpecifier s x path = map (bound_here bound.Lexical (environments x path)) (names_at role.Local x)
-bound_by kind.ImportDefaultSpecifier s x path = map (bound_here bound.Lexical (environments x path)) (names_at role.Local x)
-bound_by kind.ImportNamespaceSpecifier s x path = map (bound_here bound.Lexical (environments x path)) (names_at role.Local x)
-bound_by _ s x path = []
+abbrev pub bound_by_node : AstType → SourceType → Node → List Node → List Bound
+bound_by_node kind.VariableDeclarator s x path = bound_by_declarator x path
+bound_by_node kind.Function s x path = bound_by_function s x path
+bound_by_node kind.Class s x path = bound_by_class x path
+bound_by_node kind.FormalParameter s x path = map (bound_here bound.Parameter (environments x path)) (bound_names x)
+bound_by_node kind.FormalParameterRest s x path = map (bound_here bound.Parameter (environments x path)) (bound_names x)
+bound_by_node kind.CatchParameter s x path = flat_map (bound_by_catch (environments x path)) (children_of role.Pattern x.children)
+bound_by_node kind.ImportSpecifier s x path = map (bound_here bound.Lexical (environments x path)) (names_at role.Local x)
+bound_by_node kind.ImportDefaultSpecifier s x path = map (bound_here bound.Lexical (environments x path)) (names_at role.Local x)
+bound_by_node kind.ImportNamespaceSpecifier s x path = map (bound_here bound.Lexical (environments x path)) (names_at role.Local x)
+bound_by_node _ s x path = []
 
 abbrev pub bound_at : SourceType → Step → List Bound
-bound_at s (entering p) = bound_by p.node.kind s p.node p.path
+bound_at s (entering p) = bound_by_node p.node.kind s p.node p.path
 bound_at s _ = []
 
 -- what is bound in a program, as if nothing barred the variables of block functions

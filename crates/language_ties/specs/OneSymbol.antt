@@ -7,7 +7,7 @@ use Rattle.semantic_model.specs.Entries.{Among}
 use Rattle.semantic_model.specs.Place.{Place}
 use Rattle.semantic_model.specs.Step.{entering, steps}
 use Rattle.tangle_model.specs.Surroundings.{in_with_under}
-use Rattle.language_ties.specs.Bound.{Bound, bound_by, is_bound_as}
+use Rattle.language_ties.specs.Bound.{Bound, bound_by_node, is_bound_as}
 use Rattle.language_ties.specs.ToldNames.{may_leave_block}
 use Rattle.language_ties.specs.declared.bound_as.BoundAs.TheVariants as bound
 
@@ -18,7 +18,7 @@ pub record IsBoundByNode (p : Tree) (b : Bound) : Type 0 where
   pub apart_from_with : in_with_under place.path ≡ false
   pub no_leaving : may_leave_block p.source_type place.node place.path ≡ false
   pub no_own_name : is_bound_as bound.OwnName b ≡ false
-  pub binds : Among b (bound_by place.node.kind p.source_type place.node place.path)
+  pub binds : Among b (bound_by_node place.node.kind p.source_type place.node place.path)
 
 -- both identifiers have one symbol
 pub record HaveOneSymbol (p : Tree) (b c : Bound) : Type 0 where

@@ -13,7 +13,7 @@ use Rattle.semantic_model.specs.Place.{Place}
 use Rattle.semantic_model.specs.ScopeKind.{opened_scope}
 use Rattle.semantic_model.specs.Step.{Step, entering, opening, header_ending, closing, leaving, steps}
 use Rattle.tangle_model.specs.Surroundings.{in_with_under}
-use Rattle.language_ties.specs.Bound.{Bound, bound_by, is_block_function}
+use Rattle.language_ties.specs.Bound.{Bound, bound_by_node, is_block_function}
 use Rattle.language_ties.specs.Environments.{environments, innermost, is_made_for}
 use Rattle.language_ties.specs.declared.environment_kind.EnvironmentKind.TheVariants as environment
 
@@ -38,7 +38,7 @@ may_leave_block s x path =
 abbrev pub DeclaresAsBound : SourceType → Place → Type 0
 DeclaresAsBound s p =
     in_with_under p.path ≡ false → may_leave_block s p.node p.path ≡ false
-    → map told_by_declaration (declared_on_opening p (opened_scope p 0) ++ declared_on_entering p) ≡ map told_by_bound (bound_by p.node.kind s p.node p.path)
+    → map told_by_declaration (declared_on_opening p (opened_scope p 0) ++ declared_on_entering p) ≡ map told_by_bound (bound_by_node p.node.kind s p.node p.path)
 
 abbrev pub Declares : SourceType → Step → Type 0
 Declares s (entering p) = DeclaresAsBound s p
@@ -65,7 +65,7 @@ named_by_bound b = record { identifier = b.identifier; name = b.name }
 -- at a node that is entered
 abbrev pub NamesAsBound : SourceType → Step → Type 0
 NamesAsBound s (entering p) =
-    map named_by_declaration (declared_on_opening p (opened_scope p 0) ++ declared_on_entering p) ≡ map named_by_bound (bound_by p.node.kind s p.node p.path)
+    map named_by_declaration (declared_on_opening p (opened_scope p 0) ++ declared_on_entering p) ≡ map named_by_bound (bound_by_node p.node.kind s p.node p.path)
 NamesAsBound s (opening p o) = Unit {0}
 NamesAsBound s (header_ending p o) = Unit {0}
 NamesAsBound s (closing p o) = Unit {0}

@@ -5,22 +5,22 @@ use Rattle.std.specs.Str.{bytes_eq}
 use Rattle.semantic_syntax.specs.Tables.{Name}
 use Rattle.semantic_syntax.specs.Source.{IsSource, ends_within}
 use Rattle.scoping_rows.specs.Names.{name_at}
-use Rattle.library_cases.specs.Nested.{around, own_symbol, nest_of}
+use Rattle.library_cases.specs.Nested.{scope_around, own_symbol, nest_of}
 
-around_within : (count s : ℕ) → s < count → IfSome (around s) (λ p. p < count)
+around_within : (count s : ℕ) → s < count → IfSome (scope_around s) (λ p. p < count)
 around_within count s h = by (s == 0)
   where
     by : (b : Bool) → IfSome (if b then None else Some (s - 1)) (λ p. p < count)
     by true = tt
     by false = omega (arith, h)
 
-nest_ends : (count s : ℕ) → s < count → ends_within around count s ≡ true
+nest_ends : (count s : ℕ) → s < count → ends_within scope_around count s ≡ true
 unfolding ends_within
 nest_ends zero s h = absurd (omega (arith, h))
 nest_ends (suc count) zero h = refl
 nest_ends (suc count) (suc s) h = by (suc s == 0) (nest_ends count (suc s - 1) (omega (arith, h)))
   where
-    by : (b : Bool) → ends_within around count (suc s - 1) ≡ true → option_map_or (ends_within around count) (if b then None else Some (suc s - 1)) true ≡ true
+    by : (b : Bool) → ends_within scope_around count (suc s - 1) ≡ true → option_map_or (ends_within scope_around count) (if b then None else Some (suc s - 1)) true ≡ true
     by true rest = refl
     by false rest = rest
 

@@ -6,8 +6,8 @@ use Rattle.semantic_syntax.specs.Source.{Source}
 use Rattle.scoping_rows.specs.Names.{name_at}
 
 -- the scope around the scope: the one before it
-abbrev pub around : ℕ → Option ℕ
-around s = if s == 0 then None else Some (s - 1)
+abbrev pub scope_around : ℕ → Option ℕ
+scope_around s = if s == 0 then None else Some (s - 1)
 
 -- the symbol of the scope's own number, if the name is that of the scope
 abbrev pub own_symbol : List Name → ℕ → Name → Option ℕ
@@ -19,7 +19,7 @@ nest_of names flags declared way = record {
   scopes = length names;
   symbols = length names;
   references = 1;
-  parent = around;
+  parent = scope_around;
   scope_flags = λ s. flags;
   bound = own_symbol names;
   symbol_flags = λ y. declared;

@@ -7,7 +7,7 @@ use Rattle.semantic_tree.specs.declared.node.Node.{Node}
 use Rattle.semantic_syntax.specs.Tables.{Name}
 use Rattle.semantic_tree.specs.Views.{is, child_of, children_of}
 use Rattle.semantic_model.specs.Exported.{declared_names}
-use Rattle.link_model.specs.Module.{Analysed, Below, nodes_of, text_or_empty, source_text}
+use Rattle.link_model.specs.Module.{Analysed, Below, nodes_below_program, text_or_empty, source_text}
 
 -- how a name is exported
 pub data Exported : Type 0 where
@@ -78,9 +78,9 @@ abbrev pub exports : Analysed → List Export
 exports m = flat_map exports_of_node (statements_of m.program.root)
 
 -- the first node that exports the name
-abbrev pub export_of : List Export → Name → Option Export
-export_of [] name = None
-export_of (e ∷ es) name = cond (bytes_eq e.name name) (Some e) (export_of es name)
+abbrev pub export_named : List Export → Name → Option Export
+export_named [] name = None
+export_named (e ∷ es) name = cond (bytes_eq e.name name) (Some e) (export_named es name)
 
 -- a star export passes on all names of a module
 abbrev pub is_star : Node → Bool
@@ -91,4 +91,4 @@ star_at b = cond (is_star b.node) (Some b.node) None
 
 -- the star exports of a module, also those below another statement than the program
 abbrev pub stars : Analysed → List Node
-stars m = filter_map star_at (nodes_of m)
+stars m = filter_map star_at (nodes_below_program m)

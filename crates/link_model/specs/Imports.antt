@@ -6,7 +6,7 @@ use Rattle.semantic_kinds.specs.declared.role.Role.TheVariants as role
 use Rattle.semantic_tree.specs.declared.node.Node.{Node}
 use Rattle.semantic_syntax.specs.Tables.{Name}
 use Rattle.semantic_tree.specs.Views.{child_of}
-use Rattle.link_model.specs.Module.{Analysed, Below, nodes_of, text_or_empty, source_text}
+use Rattle.link_model.specs.Module.{Analysed, Below, nodes_below_program, text_or_empty, source_text}
 
 -- what is asked of a module: the export of a name, or all
 pub data Wanted : Type 0 where
@@ -38,4 +38,4 @@ import_at b = import_by b (wanted_by b.node.kind b.node)
 
 -- the import specifiers of a module, in preorder
 abbrev pub imports : Analysed → List Import
-imports m = filter_map import_at (nodes_of m)
+imports m = filter_map import_at (nodes_below_program m)

@@ -26,8 +26,8 @@ abbrev pub module_names : List Analysed → List Name
 module_names ms = map (λ (m : Analysed). m.name) ms
 
 -- the module that a specifier names: the first with the name
-abbrev pub named : List Name → Name → Option ℕ
-named names text = position (bytes_eq text) names
+abbrev pub module_named : List Name → Name → Option ℕ
+module_named names text = position (bytes_eq text) names
 
 -- the text of a node, if there is one
 abbrev pub text_or_empty : Option Node → Name
@@ -51,5 +51,5 @@ nodes_below parent (tree r kind span text marks below id after) =
     record { parent = parent; node = node } ∷ (nodes_below node below ++ nodes_below parent after)
 
 -- the nodes of a module below its program, in preorder
-abbrev pub nodes_of : Analysed → List Below
-nodes_of m = nodes_below m.program.root m.program.root.children
+abbrev pub nodes_below_program : Analysed → List Below
+nodes_below_program m = nodes_below m.program.root m.program.root.children

@@ -7,10 +7,10 @@ use Rattle.link_model.specs.declared.outcome.LinkOutcome.{LinkOutcome}
 use Rattle.link_model.specs.declared.outcome.LinkOutcome.TheVariants as outcome
 use Rattle.link_model.specs.Module.{Analysed, all_analysed, module_names}
 use Rattle.link_model.specs.Imports.{Import, imports}
-use Rattle.link_model.specs.Leads.{End, pair, symbol, default_of, namespace_of, outside, is_terminal, leads, import_end}
+use Rattle.link_model.specs.Leads.{LinkEnd, pair, symbol, default_of, namespace_of, outside, is_terminal, leads, import_end}
 
 -- the outcome of one terminal
-abbrev pub outcome_at : End → LinkOutcome
+abbrev pub outcome_at : LinkEnd → LinkOutcome
 outcome_at (pair m name) = outcome.Missing
 outcome_at (symbol m s) = outcome.Symbol m s
 outcome_at (default_of m) = outcome.Default m
@@ -18,13 +18,13 @@ outcome_at (namespace_of m) = outcome.Namespace m
 outcome_at (outside source name) = outcome.External
 
 -- this is the outcome of the one terminal that is reached
-pub record IsOfOne (ms : List Analysed) (e : End) (o : LinkOutcome) : Type 0 where
-  pub terminal : End
+pub record IsOfOne (ms : List Analysed) (e : LinkEnd) (o : LinkOutcome) : Type 0 where
+  pub terminal : LinkEnd
   pub reached : ReachesOne (leads ms) is_terminal e terminal
   pub told : o ≡ outcome_at terminal
 
 -- the outcome of what leads to an end: by the terminals that it reaches in any number of steps, and by rings if there are none
-abbrev pub IsOutcome : List Analysed → End → LinkOutcome → Type 0
+abbrev pub IsOutcome : List Analysed → LinkEnd → LinkOutcome → Type 0
 IsOutcome ms e outcome.Ambiguous = ReachesTwo (leads ms) is_terminal e
 IsOutcome ms e outcome.Ring = ReachesNone (leads ms) is_terminal e × ReachesRing (leads ms) e
 IsOutcome ms e outcome.Missing = ReachesNone (leads ms) is_terminal e × (ReachesRing (leads ms) e → ⊥)

@@ -8,7 +8,7 @@ use Rattle.semantic_tree.specs.declared.node.Node.{Node}
 use Rattle.module_set.specs.declared.error.LinkError.{LinkError}
 use Rattle.module_set.specs.declared.error.LinkError.TheVariants.{NotModule, Twice, TwoExports, UnknownStar}
 use Rattle.module_set.specs.declared.modules.Module.{Module}
-use Rattle.link_model.specs.Module.{Analysed, all_analysed, module_names, named, source_text}
+use Rattle.link_model.specs.Module.{Analysed, all_analysed, module_names, module_named, source_text}
 use Rattle.link_model.specs.Exports.{Export, exports, stars}
 
 -- a module in JavaScript, plain or with JSX
@@ -32,7 +32,7 @@ repeated before (e ∷ es) = cond (list_any (bytes_eq e.name) before) (Some e.no
 -- the first star export of a module that has none of these names
 abbrev pub unknown : List Name → List Node → Option ℕ
 unknown names [] = None
-unknown names (s ∷ ss) = cond (is_none (named names (source_text s))) (Some s.node_id) (unknown names ss)
+unknown names (s ∷ ss) = cond (is_none (module_named names (source_text s))) (Some s.node_id) (unknown names ss)
 
 abbrev pub or_later : Option LinkError → Option LinkError → Option LinkError
 or_later None later = later

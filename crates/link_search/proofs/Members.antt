@@ -10,9 +10,9 @@ use Rattle.link_search.specs.declared.target.Target.{Target}
 use Rattle.link_search.specs.declared.target.Target.TheVariants.{Name, End}
 use Rattle.link_search.specs.declared.terminal.Terminal.{Terminal}
 use Rattle.link_search.specs.Ends.{AreApart, ends_in}
-use Rattle.link_search.specs.Targets.{names_in}
+use Rattle.link_search.specs.Targets.{target_names}
 
-pub name_among : (ts : List Target) (q : Pair) → Among q (names_in ts) → Among (Name q.0 q.1) ts
+pub name_among : (ts : List Target) (q : Pair) → Among q (target_names ts) → Among (Name q.0 q.1) ts
 name_among [] q i = absurd i
 name_among (Name m k ∷ ts) q (inl e) = inl (ap (λ (p : Pair). Name p.0 p.1) e)
 name_among (Name m k ∷ ts) q (inr i) = inr (name_among ts q i)
@@ -24,7 +24,7 @@ same_name a b m k e =
     let second : b ≡ k = cc in
     λ i. (first i, second i)
 
-pub among_name : (ts : List Target) (m k : ℕ) → Among (Name m k) ts → Among {A = Pair} (m, k) (names_in ts)
+pub among_name : (ts : List Target) (m k : ℕ) → Among (Name m k) ts → Among {A = Pair} (m, k) (target_names ts)
 among_name [] m k i = absurd i
 among_name (Name a b ∷ ts) m k (inl e) = inl (same_name a b m k e)
 among_name (Name a b ∷ ts) m k (inr i) = inr (among_name ts m k i)

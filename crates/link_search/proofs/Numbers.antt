@@ -8,7 +8,7 @@ use Rattle.reachability.proofs.Lists.{among_left, among_right, among_either}
 use Rattle.link_search.specs.Numbering.{Pair}
 use Rattle.link_search.specs.declared.exports.SetExports.{SetExports}
 use Rattle.link_search.specs.declared.terminal.Terminal.{Terminal}
-use Rattle.link_search.specs.Ends.{Extends, AreNumbered, ends_in, ends_from}
+use Rattle.link_search.specs.Ends.{Extends, EndsAreNumbered, ends_in, ends_from}
 use Rattle.link_search.specs.Exports.{targets_of}
 
 -- a terminal, with the number of the name that leads to it
@@ -17,7 +17,7 @@ Ended = ℕ × Terminal
 
 -- ---- in numbers
 
-pub told : (ts : List Terminal) (es : List (ℕ × ℕ)) (xs : List Ended) → AreNumbered ts es xs → (i n : ℕ) → Among {A = ℕ × ℕ} (i, n) es → (t : Terminal) × (slice_get ts n ≡ Some t) × Among {A = Ended} (i, t) xs
+pub told : (ts : List Terminal) (es : List (ℕ × ℕ)) (xs : List Ended) → EndsAreNumbered ts es xs → (i n : ℕ) → Among {A = ℕ × ℕ} (i, n) es → (t : Terminal) × (slice_get ts n ≡ Some t) × Among {A = Ended} (i, t) xs
 told ts [] xs h i n a = absurd a
 told ts (e ∷ es) [] h i n a = absurd h
 told ts (e ∷ es) (x ∷ xs) h i n (inl is) =
@@ -28,7 +28,7 @@ told ts (e ∷ es) (x ∷ xs) h i n (inl is) =
 told ts (e ∷ es) (x ∷ xs) h i n (inr a) =
     let w : (t : Terminal) × (slice_get ts n ≡ Some t) × Among {A = Ended} (i, t) xs = told ts es xs h.2 i n a in (w.0, w.1, inr w.2)
 
-pub tells : (ts : List Terminal) (es : List (ℕ × ℕ)) (xs : List Ended) → AreNumbered ts es xs → (i : ℕ) (t : Terminal) → Among {A = Ended} (i, t) xs → (n : ℕ) × Among {A = ℕ × ℕ} (i, n) es × (slice_get ts n ≡ Some t)
+pub tells : (ts : List Terminal) (es : List (ℕ × ℕ)) (xs : List Ended) → EndsAreNumbered ts es xs → (i : ℕ) (t : Terminal) → Among {A = Ended} (i, t) xs → (n : ℕ) × Among {A = ℕ × ℕ} (i, n) es × (slice_get ts n ≡ Some t)
 tells ts es [] h i t a = absurd a
 tells ts [] (x ∷ xs) h i t a = absurd h
 tells ts (e ∷ es) (x ∷ xs) h i t (inl is) =
@@ -84,23 +84,23 @@ module _ (s : SetExports) where
 
 -- ---- one number more
 
-numbered_stays : (old new : List Terminal) (es : List (ℕ × ℕ)) (xs : List Ended) → Extends old new → AreNumbered old es xs → AreNumbered new es xs
+numbered_stays : (old new : List Terminal) (es : List (ℕ × ℕ)) (xs : List Ended) → Extends old new → EndsAreNumbered old es xs → EndsAreNumbered new es xs
 numbered_stays old new [] [] ext h = tt
 numbered_stays old new [] (x ∷ xs) ext h = absurd h
 numbered_stays old new (e ∷ es) [] ext h = absurd h
 numbered_stays old new (e ∷ es) (x ∷ xs) ext h = (h.0, ext e.1 x.1 h.1, numbered_stays old new es xs ext h.2)
 
-numbered_push : (ts : List Terminal) (es : List (ℕ × ℕ)) (xs : List Ended) (e : ℕ × ℕ) (x : Ended) → AreNumbered ts es xs → e.0 ≡ x.0 → slice_get ts e.1 ≡ Some x.1 → AreNumbered ts (es ++ e ∷ []) (xs ++ x ∷ [])
+numbered_push : (ts : List Terminal) (es : List (ℕ × ℕ)) (xs : List Ended) (e : ℕ × ℕ) (x : Ended) → EndsAreNumbered ts es xs → e.0 ≡ x.0 → slice_get ts e.1 ≡ Some x.1 → EndsAreNumbered ts (es ++ e ∷ []) (xs ++ x ∷ [])
 numbered_push ts [] [] e x h first second = (first, second, tt)
 numbered_push ts [] (y ∷ xs) e x h first second = absurd h
 numbered_push ts (d ∷ es) [] e x h first second = absurd h
 numbered_push ts (d ∷ es) (y ∷ xs) e x h first second = (h.0, h.1, numbered_push ts es xs e x h.2 first second)
 
-pub numbered_more : (old new : List Terminal) (es js : List (ℕ × ℕ)) (xs : List Ended) (i n : ℕ) (x : Ended) → i < length xs → x ≡ get_or xs i x → js ≡ es ++ (x.0, n) ∷ [] → Extends old new → slice_get new n ≡ Some x.1 → AreNumbered old es (take i xs)
-    → AreNumbered new js (take (i + 1) xs)
+pub numbered_more : (old new : List Terminal) (es js : List (ℕ × ℕ)) (xs : List Ended) (i n : ℕ) (x : Ended) → i < length xs → x ≡ get_or xs i x → js ≡ es ++ (x.0, n) ∷ [] → Extends old new → slice_get new n ≡ Some x.1 → EndsAreNumbered old es (take i xs)
+    → EndsAreNumbered new js (take (i + 1) xs)
 numbered_more old new es js xs i n x within at pushed ext is h =
-    subst (AreNumbered new js) (sym (take_more xs i x within ∙ ap (λ y. take i xs ++ y ∷ []) (sym at)))
-    (subst (λ ks. AreNumbered new ks (take i xs ++ x ∷ [])) (sym pushed)
+    subst (EndsAreNumbered new js) (sym (take_more xs i x within ∙ ap (λ y. take i xs ++ y ∷ []) (sym at)))
+    (subst (λ ks. EndsAreNumbered new ks (take i xs ++ x ∷ [])) (sym pushed)
     (numbered_push new es (take i xs) (x.0, n) x (numbered_stays old new es (take i xs) ext h) refl is))
 
 -- the terminal of one name more, if it leads to one

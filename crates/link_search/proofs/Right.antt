@@ -4,7 +4,7 @@ use Rattle.reachability.specs.Rows.{Among}
 use Rattle.link_search.specs.Numbering.{Pair, AreDistinctPairs}
 use Rattle.link_search.specs.Graph.{AreRowsOf}
 use Rattle.link_search.specs.Steps.{Leads, LeadsToRing}
-use Rattle.link_search.specs.Reached.{ReachesEnd, Tells}
+use Rattle.link_search.specs.Reached.{ReachesEnd, AnswerTells}
 use Rattle.link_search.specs.declared.terminals.Terminals.{Terminals}
 use Rattle.link_search.specs.declared.terminals.Terminals.TheVariants as those
 use Rattle.link_search.specs.declared.exports.SetExports.{SetExports}
@@ -12,16 +12,16 @@ use Rattle.link_search.specs.declared.target.Target.{Target}
 use Rattle.link_search.specs.declared.target.Target.TheVariants.{Name, End}
 use Rattle.link_search.specs.declared.terminal.Terminal.{Terminal}
 use Rattle.link_search.specs.Answers.{answer_by, if_there}
-use Rattle.link_search.specs.Ends.{AreApart, AreNumbered, ends_from}
+use Rattle.link_search.specs.Ends.{AreApart, EndsAreNumbered, ends_from}
 use Rattle.link_search.specs.Exports.{targets_of, leads_of}
 use Rattle.link_search.specs.Reaches.{Reaches, ReachesTerminal, ReachesTwo}
-use Rattle.link_search.specs.Targets.{is_end, ComesTo}
+use Rattle.link_search.specs.Targets.{is_end, TargetComesTo}
 use Rattle.link_search.proofs.Members.{end_among, among_end, same_end, some_same}
 use Rattle.link_search.proofs.Ties.{names_of, further, lands, reaches, ring_of, of_ring}
 use Rattle.link_search.proofs.Numbers.{told, tells, Ended, EndsAt, ends_there, ends_only}
 
 module _ (s : SetExports) (keys : List Pair) (rows : List (List ℕ)) (are : AreRowsOf (names_of s) keys rows) (distinct : AreDistinctPairs keys) where
-  module _ (ts : List Terminal) (ends : List (ℕ × ℕ)) (numbered : AreNumbered ts ends (ends_from s 0 keys)) (apart : AreApart ts) where
+  module _ (ts : List Terminal) (ends : List (ℕ × ℕ)) (numbered : EndsAreNumbered ts ends (ends_from s 0 keys)) (apart : AreApart ts) where
     -- a terminal that a name reaches is found by its number
     reached_end : (i m k : ℕ) (t : Terminal) → slice_get keys i ≡ Some (m, k) → Reaches (leads_of s) (Name m k) (End t) → (n : ℕ) × (slice_get ts n ≡ Some t) × ReachesEnd rows ends i n
     reached_end i m k t e r =
@@ -55,12 +55,12 @@ module _ (s : SetExports) (keys : List Pair) (rows : List (List ℕ)) (are : Are
         let w : (o : ℕ) × (slice_get ts o ≡ Some u) × ReachesEnd rows ends i o = reached_end i m k u e r.0 in
         ap (λ v. End v) (some_same u t (sym w.1 ∙ ap (slice_get ts) (only w.0 w.2) ∙ is))
 
-    found_one : (i m k n : ℕ) → slice_get keys i ≡ Some (m, k) → Tells rows ends (those.One n) i → ComesTo (leads_of s) (Name m k) (if_there (slice_get ts n))
+    found_one : (i m k n : ℕ) → slice_get keys i ≡ Some (m, k) → AnswerTells rows ends (those.One n) i → TargetComesTo (leads_of s) (Name m k) (if_there (slice_get ts n))
     found_one i m k n e tell =
         let w : (t : Terminal) × (slice_get ts n ≡ Some t) × Reaches (leads_of s) (Name m k) (End t) = end_reached i n (m, k) e tell.0 in
-        subst (λ o. ComesTo (leads_of s) (Name m k) (if_there o)) (sym w.1) (record { reached = (w.2, refl); alone = alone i m k n w.0 e w.1 tell.1 })
+        subst (λ o. TargetComesTo (leads_of s) (Name m k) (if_there o)) (sym w.1) (record { reached = (w.2, refl); alone = alone i m k n w.0 e w.1 tell.1 })
 
-    found_two : (i m k : ℕ) → slice_get keys i ≡ Some (m, k) → Tells rows ends those.Several i → ReachesTwo (leads_of s) is_end (Name m k)
+    found_two : (i m k : ℕ) → slice_get keys i ≡ Some (m, k) → AnswerTells rows ends those.Several i → ReachesTwo (leads_of s) is_end (Name m k)
     found_two i m k e two =
         let v : (t : Terminal) × (slice_get ts two.one ≡ Some t) × Reaches (leads_of s) (Name m k) (End t) = end_reached i two.one (m, k) e two.reached_one in
         let w : (t : Terminal) × (slice_get ts two.other ≡ Some t) × Reaches (leads_of s) (Name m k) (End t) = end_reached i two.other (m, k) e two.reached_other in
@@ -73,8 +73,8 @@ module _ (s : SetExports) (keys : List Pair) (rows : List (List ℕ)) (are : Are
         }
 
     -- the answer at a number is right
-    pub right_at : (i m k : ℕ) (to_ring : Bool) (v : Terminals) → slice_get keys i ≡ Some (m, k) → (to_ring ≡ true → LeadsToRing rows i) → (LeadsToRing rows i → to_ring ≡ true) → Tells rows ends v i
-        → ComesTo (leads_of s) (Name m k) (answer_by ts to_ring v)
+    pub right_at : (i m k : ℕ) (to_ring : Bool) (v : Terminals) → slice_get keys i ≡ Some (m, k) → (to_ring ≡ true → LeadsToRing rows i) → (LeadsToRing rows i → to_ring ≡ true) → AnswerTells rows ends v i
+        → TargetComesTo (leads_of s) (Name m k) (answer_by ts to_ring v)
     right_at i m k true those.Nowhere e sound complete tell = (none i m k e tell, ring_of s keys rows are i (m, k) e (sound refl))
     right_at i m k false those.Nowhere e sound complete tell = (none i m k e tell, λ r. absurd (let h : false ≡ true = complete (of_ring s keys rows are distinct i m k e r) in cc))
     right_at i m k to_ring (those.One n) e sound complete tell = found_one i m k n e tell

@@ -10,12 +10,12 @@ use Rattle.reachability.specs.Marked.{is_marked}
 use Rattle.reachability.specs.Rows.{Among}
 use Rattle.link_search.specs.Graph.{StartAmong, AreRowsOf}
 use Rattle.link_search.specs.Numbering.{Pair, same_pair, AreDistinctPairs}
-use Rattle.link_search.specs.Reached.{Tells, value_of}
+use Rattle.link_search.specs.Reached.{AnswerTells, known_of}
 use Rattle.link_search.specs.Steps.{LeadsToRing}
 use Rattle.link_search.specs.Answers.{answer_if, IsSearched}
-use Rattle.link_search.specs.Ends.{AreApart, AreNumbered, ends_from}
+use Rattle.link_search.specs.Ends.{AreApart, EndsAreNumbered, ends_from}
 use Rattle.link_search.specs.Exports.{leads_of}
-use Rattle.link_search.specs.Targets.{ComesTo}
+use Rattle.link_search.specs.Targets.{TargetComesTo}
 use Rattle.link_search.specs.declared.answer.Search.{Search}
 use Rattle.link_search.specs.declared.exports.SetExports.{SetExports}
 use Rattle.link_search.specs.declared.target.Target.TheVariants.{Name}
@@ -63,7 +63,7 @@ start_place keys (q ∷ starts) h p (inr i) = start_place keys starts h.1 p i
 -- ---- numbers of names that lead to terminals
 
 module _ (s : SetExports) (keys : List Pair) where
-  below_each : (ts : List Terminal) (es : List (ℕ × ℕ)) (xs : List Ended) → ((i : ℕ) (t : Terminal) → Among {A = Ended} (i, t) xs → i < length keys) → AreNumbered ts es xs → All (λ e. e.0 < length keys) es
+  below_each : (ts : List Terminal) (es : List (ℕ × ℕ)) (xs : List Ended) → ((i : ℕ) (t : Terminal) → Among {A = Ended} (i, t) xs → i < length keys) → EndsAreNumbered ts es xs → All (λ e. e.0 < length keys) es
   below_each ts [] xs h n = All-nil (λ e. e.0 < length keys)
   below_each ts (e ∷ es) [] h n = absurd n
   below_each ts (e ∷ es) (x ∷ xs) h n =
@@ -76,20 +76,20 @@ module _ (s : SetExports) (keys : List Pair) where
       let is : i ≡ 0 + w.place = w.is in
       omega (arith, within, is)
 
-  pub ends_below : (ts : List Terminal) (es : List (ℕ × ℕ)) → AreNumbered ts es (ends_from s 0 keys) → All (λ e. e.0 < length keys) es
+  pub ends_below : (ts : List Terminal) (es : List (ℕ × ℕ)) → EndsAreNumbered ts es (ends_from s 0 keys) → All (λ e. e.0 < length keys) es
   ends_below ts es n = below_each ts es (ends_from s 0 keys) end_below n
 
 -- ---- the search
 
 pub searched : (s : SetExports) (starts : List Pair) (found : Search) (rows : List (List ℕ)) (ends : List (ℕ × ℕ))
     → StartAmong found.names.keys starts → AreDistinctPairs found.names.keys → AreRowsOf (names_of s) found.names.keys rows
-    → AreNumbered found.terminals.keys ends (ends_from s 0 found.names.keys) → AreApart found.terminals.keys
+    → EndsAreNumbered found.terminals.keys ends (ends_from s 0 found.names.keys) → AreApart found.terminals.keys
     → ((a : ℕ) → is_marked found.to_rings.items a ≡ true → LeadsToRing rows a)
     → ((a : ℕ) → a < length rows → LeadsToRing rows a → is_marked found.to_rings.items a ≡ true)
-    → ((a : ℕ) → Tells rows ends (value_of found.reached.items a) a)
+    → ((a : ℕ) → AnswerTells rows ends (known_of found.reached.items a) a)
     → IsSearched s starts found
 searched s starts found rows ends begun distinct are numbered apart sound complete tells p i =
     let w : (n : ℕ) × (slice_get found.names.keys n ≡ Some p) = start_place found.names.keys starts begun p i in
     let within : w.0 < length rows = subst (λ n. w.0 < n) (sym are.many) (slice_get_within found.names.keys w.0 p w.1) in
-    subst (λ o. ComesTo (leads_of s) (Name p.0 p.1) (answer_if found o)) (sym (place_is found.names.keys distinct w.0 p w.1))
-    (right_at s found.names.keys rows are distinct found.terminals.keys ends numbered apart w.0 p.0 p.1 (is_marked found.to_rings.items w.0) (value_of found.reached.items w.0) w.1 (sound w.0) (complete w.0 within) (tells w.0))
+    subst (λ o. TargetComesTo (leads_of s) (Name p.0 p.1) (answer_if found o)) (sym (place_is found.names.keys distinct w.0 p w.1))
+    (right_at s found.names.keys rows are distinct found.terminals.keys ends numbered apart w.0 p.0 p.1 (is_marked found.to_rings.items w.0) (known_of found.reached.items w.0) w.1 (sound w.0) (complete w.0 within) (tells w.0))

@@ -8,7 +8,7 @@ use Rattle.reachability.proofs.Lists.{among_left, among_right, among_either}
 use Rattle.link_search.specs.Steps.{Leads}
 use Rattle.link_search.specs.declared.terminals.Terminals.{Terminals}
 use Rattle.link_search.specs.declared.terminals.Terminals.TheVariants as those
-use Rattle.link_search.specs.Reached.{ReachesEnd, ReachesTwo, Tells, joined, absorbs, Spread, value_of, raised, raised_all, with_ends, backward_from}
+use Rattle.link_search.specs.Reached.{ReachesEnd, ReachesTwo, AnswerTells, joined, absorbs, Spread, known_of, spread_raised, raised_all, with_ends, backward_from}
 
 absorbs_itself : (x : Terminals) → absorbs x x ≡ true
 absorbs_itself those.Nowhere = refl
@@ -76,7 +76,7 @@ abbrev total : List Terminals → ℕ
 total [] = 0
 total (x ∷ xs) = height x + total xs
 
-total_set : (xs : List Terminals) (a : ℕ) (y : Terminals) → a < length xs → height y + 2 ≤ height (value_of xs a) → total (set xs a y) + 2 ≤ total xs
+total_set : (xs : List Terminals) (a : ℕ) (y : Terminals) → a < length xs → height y + 2 ≤ height (known_of xs a) → total (set xs a y) + 2 ≤ total xs
 total_set [] a y h e = absurd (omega (arith, h))
 total_set (x ∷ xs) zero y h e = omega (arith, e)
 total_set (x ∷ xs) (suc a) y h e = let i : total (set xs a y) + 2 ≤ total xs = total_set xs a y (omega (arith, h)) e in omega (arith, i)
@@ -170,122 +170,122 @@ module _ (rows : List (List ℕ)) (ends : List (ℕ × ℕ)) where
   pub record Spreads (n : ℕ) (s : Spread) : Type 0 where
     pub size : length s.values ≡ n
     pub within : (x : ℕ) → Among x s.news → x < n
-    pub holds : (x : ℕ) → Holds (value_of s.values x) x
+    pub holds : (x : ℕ) → Holds (known_of s.values x) x
 
   -- what leads to a number knows what it knows, or will be told: it is among the news, or it is b, whose value is being told to these
   abbrev pub Told : ℕ → Terminals → List ℕ → Spread → Type 0
-  Told b v rest s = (x y : ℕ) → Among y (row rows x) → (absorbs (value_of s.values x) (value_of s.values y) ≡ true) ⊎ (Among y s.news ⊎ ((y ≡ b) × Among x rest × (value_of s.values y ≡ v)))
+  Told b v rest s = (x y : ℕ) → Among y (row rows x) → (absorbs (known_of s.values x) (known_of s.values y) ≡ true) ⊎ (Among y s.news ⊎ ((y ≡ b) × Among x rest × (known_of s.values y ≡ v)))
 
   pub record Raised (n : ℕ) (s r : Spread) : Type 0 where
     pub spreads : Spreads n r
-    pub grows : (x : ℕ) → absorbs (value_of r.values x) (value_of s.values x) ≡ true
+    pub grows : (x : ℕ) → absorbs (known_of r.values x) (known_of s.values x) ≡ true
     pub less : work r ≤ work s
 
   module _ (n : ℕ) (s : Spread) (a : ℕ) (v : Terminals) where
     abbrev new_values : List Terminals
-    new_values = set s.values a (joined (value_of s.values a) v)
+    new_values = set s.values a (joined (known_of s.values a) v)
 
     higher : Spread
     higher = record { values = new_values; news = a ∷ s.news }
 
-    there : a < length s.values → value_of new_values a ≡ joined (value_of s.values a) v
-    there h = get_or-set_same s.values a (joined (value_of s.values a) v) those.Nowhere h
+    there : a < length s.values → known_of new_values a ≡ joined (known_of s.values a) v
+    there h = get_or-set_same s.values a (joined (known_of s.values a) v) those.Nowhere h
 
-    elsewhere : (x : ℕ) → x ≢ a → value_of new_values x ≡ value_of s.values x
-    elsewhere x other = get_or-set_other s.values a x (joined (value_of s.values a) v) those.Nowhere other
+    elsewhere : (x : ℕ) → x ≢ a → known_of new_values x ≡ known_of s.values x
+    elsewhere x other = get_or-set_other s.values a x (joined (known_of s.values a) v) those.Nowhere other
 
-    raises_to : Spreads n s → a < n → Holds v a → absorbs (value_of s.values a) v ≡ false → Raised n s (record { values = new_values; news = a ∷ s.news })
+    raises_to : Spreads n s → a < n → Holds v a → absorbs (known_of s.values a) v ≡ false → Raised n s (record { values = new_values; news = a ∷ s.news })
     raises_to k l hv e =
         let h : a < length s.values = subst (λ m. a < m) (sym k.size) l in
         record {
           spreads = record {
-            size = length-set s.values a (joined (value_of s.values a) v) ∙ k.size;
+            size = length-set s.values a (joined (known_of s.values a) v) ∙ k.size;
             within = λ x i. within x i;
             holds = λ x. holds h x (cases_eq x a);
           };
           grows = λ x. grows h x (cases_eq x a);
-          less = (let t : total new_values + 2 ≤ total s.values = total_set s.values a (joined (value_of s.values a) v) h (lower (value_of s.values a) v e) in omega (arith, t));
+          less = (let t : total new_values + 2 ≤ total s.values = total_set s.values a (joined (known_of s.values a) v) h (lower (known_of s.values a) v e) in omega (arith, t));
         }
       where
         within : (x : ℕ) → Among x (a ∷ s.news) → x < n
         within x (inl same) = subst (λ y. y < n) same l
         within x (inr i) = k.within x i
 
-        holds : a < length s.values → (x : ℕ) → (x ≡ a) ⊎ (x ≢ a) → Holds (value_of new_values x) x
-        holds h x (inl same) = subst (λ y. Holds (value_of new_values y) y) (sym same) (subst (λ w. Holds w a) (sym (there h)) (joined_holds (value_of s.values a) v a (k.holds a) hv))
+        holds : a < length s.values → (x : ℕ) → (x ≡ a) ⊎ (x ≢ a) → Holds (known_of new_values x) x
+        holds h x (inl same) = subst (λ y. Holds (known_of new_values y) y) (sym same) (subst (λ w. Holds w a) (sym (there h)) (joined_holds (known_of s.values a) v a (k.holds a) hv))
         holds h x (inr other) = subst (λ w. Holds w x) (sym (elsewhere x other)) (k.holds x)
 
-        grows : a < length s.values → (x : ℕ) → (x ≡ a) ⊎ (x ≢ a) → absorbs (value_of new_values x) (value_of s.values x) ≡ true
-        grows h x (inl same) = subst (λ y. absorbs (value_of new_values y) (value_of s.values y) ≡ true) (sym same) (ap (λ w. absorbs w (value_of s.values a)) (there h) ∙ absorbs_left (value_of s.values a) v)
-        grows h x (inr other) = ap (λ w. absorbs w (value_of s.values x)) (elsewhere x other) ∙ absorbs_itself (value_of s.values x)
+        grows : a < length s.values → (x : ℕ) → (x ≡ a) ⊎ (x ≢ a) → absorbs (known_of new_values x) (known_of s.values x) ≡ true
+        grows h x (inl same) = subst (λ y. absorbs (known_of new_values y) (known_of s.values y) ≡ true) (sym same) (ap (λ w. absorbs w (known_of s.values a)) (there h) ∙ absorbs_left (known_of s.values a) v)
+        grows h x (inr other) = ap (λ w. absorbs w (known_of s.values x)) (elsewhere x other) ∙ absorbs_itself (known_of s.values x)
 
-    pub raises : Spreads n s → a < n → Holds v a → Raised n s (raised s a v)
-    raises k l hv = go (absorbs (value_of s.values a) v) refl
+    pub raises : Spreads n s → a < n → Holds v a → Raised n s (spread_raised s a v)
+    raises k l hv = go (absorbs (known_of s.values a) v) refl
       where
-        go : (b : Bool) → absorbs (value_of s.values a) v ≡ b → Raised n s (cond b s (record { values = new_values; news = a ∷ s.news }))
-        go true e = record { spreads = k; grows = λ x. absorbs_itself (value_of s.values x); less = omega arith }
+        go : (b : Bool) → absorbs (known_of s.values a) v ≡ b → Raised n s (cond b s (record { values = new_values; news = a ∷ s.news }))
+        go true e = record { spreads = k; grows = λ x. absorbs_itself (known_of s.values x); less = omega arith }
         go false e = raises_to k l hv e
 
     -- the number has the value then
-    pub has : a < length s.values → absorbs (value_of (raised s a v).values a) v ≡ true
-    has h = go (absorbs (value_of s.values a) v) refl
+    pub has : a < length s.values → absorbs (known_of (spread_raised s a v).values a) v ≡ true
+    has h = go (absorbs (known_of s.values a) v) refl
       where
-        go : (b : Bool) → absorbs (value_of s.values a) v ≡ b → absorbs (value_of (cond b s (record { values = new_values; news = a ∷ s.news })).values a) v ≡ true
+        go : (b : Bool) → absorbs (known_of s.values a) v ≡ b → absorbs (known_of (cond b s (record { values = new_values; news = a ∷ s.news })).values a) v ≡ true
         go true e = e
-        go false e = ap (λ w. absorbs w v) (there h) ∙ absorbs_right (value_of s.values a) v
+        go false e = ap (λ w. absorbs w v) (there h) ∙ absorbs_right (known_of s.values a) v
 
-    pub told_on : (b : ℕ) (rest : List ℕ) → a < length s.values → Told b v (a ∷ rest) s → Told b v rest (raised s a v)
-    told_on b rest h t = λ x y i. go (absorbs (value_of s.values a) v) refl x y i
+    pub told_on : (b : ℕ) (rest : List ℕ) → a < length s.values → Told b v (a ∷ rest) s → Told b v rest (spread_raised s a v)
+    told_on b rest h t = λ x y i. go (absorbs (known_of s.values a) v) refl x y i
       where
-        stays : absorbs (value_of s.values a) v ≡ true → (x y : ℕ) → (absorbs (value_of s.values x) (value_of s.values y) ≡ true) ⊎ (Among y s.news ⊎ ((y ≡ b) × Among x (a ∷ rest) × (value_of s.values y ≡ v))) → (absorbs (value_of s.values x) (value_of s.values y) ≡ true) ⊎ (Among y s.news ⊎ ((y ≡ b) × Among x rest × (value_of s.values y ≡ v)))
+        stays : absorbs (known_of s.values a) v ≡ true → (x y : ℕ) → (absorbs (known_of s.values x) (known_of s.values y) ≡ true) ⊎ (Among y s.news ⊎ ((y ≡ b) × Among x (a ∷ rest) × (known_of s.values y ≡ v))) → (absorbs (known_of s.values x) (known_of s.values y) ≡ true) ⊎ (Among y s.news ⊎ ((y ≡ b) × Among x rest × (known_of s.values y ≡ v)))
         stays e x y (inl f) = inl f
         stays e x y (inr (inl j)) = inr (inl j)
-        stays e x y (inr (inr (p, inl same, q))) = inl (subst (λ z. absorbs (value_of s.values z) (value_of s.values y) ≡ true) same (ap (absorbs (value_of s.values a)) q ∙ e))
+        stays e x y (inr (inr (p, inl same, q))) = inl (subst (λ z. absorbs (known_of s.values z) (known_of s.values y) ≡ true) same (ap (absorbs (known_of s.values a)) q ∙ e))
         stays e x y (inr (inr (p, inr j, q))) = inr (inr (p, j, q))
 
         -- what x knows is no less than before
-        more : (x : ℕ) → (x ≡ a) ⊎ (x ≢ a) → absorbs (value_of new_values x) (value_of s.values x) ≡ true
-        more x (inl same) = subst (λ y. absorbs (value_of new_values y) (value_of s.values y) ≡ true) (sym same) (ap (λ w. absorbs w (value_of s.values a)) (there h) ∙ absorbs_left (value_of s.values a) v)
-        more x (inr other) = ap (λ w. absorbs w (value_of s.values x)) (elsewhere x other) ∙ absorbs_itself (value_of s.values x)
+        more : (x : ℕ) → (x ≡ a) ⊎ (x ≢ a) → absorbs (known_of new_values x) (known_of s.values x) ≡ true
+        more x (inl same) = subst (λ y. absorbs (known_of new_values y) (known_of s.values y) ≡ true) (sym same) (ap (λ w. absorbs w (known_of s.values a)) (there h) ∙ absorbs_left (known_of s.values a) v)
+        more x (inr other) = ap (λ w. absorbs w (known_of s.values x)) (elsewhere x other) ∙ absorbs_itself (known_of s.values x)
 
-        rises : (x y : ℕ) → (y ≡ a) ⊎ (y ≢ a) → (absorbs (value_of s.values x) (value_of s.values y) ≡ true) ⊎ (Among y s.news ⊎ ((y ≡ b) × Among x (a ∷ rest) × (value_of s.values y ≡ v))) → (absorbs (value_of new_values x) (value_of new_values y) ≡ true) ⊎ (Among y (a ∷ s.news) ⊎ ((y ≡ b) × Among x rest × (value_of new_values y ≡ v)))
+        rises : (x y : ℕ) → (y ≡ a) ⊎ (y ≢ a) → (absorbs (known_of s.values x) (known_of s.values y) ≡ true) ⊎ (Among y s.news ⊎ ((y ≡ b) × Among x (a ∷ rest) × (known_of s.values y ≡ v))) → (absorbs (known_of new_values x) (known_of new_values y) ≡ true) ⊎ (Among y (a ∷ s.news) ⊎ ((y ≡ b) × Among x rest × (known_of new_values y ≡ v)))
         rises x y (inl same) o = inr (inl (inl (sym same)))
-        rises x y (inr other) (inl f) = inl (ap (absorbs (value_of new_values x)) (elsewhere y other) ∙ absorbs_through (value_of s.values y) (value_of s.values x) (value_of new_values x) f (more x (cases_eq x a)))
+        rises x y (inr other) (inl f) = inl (ap (absorbs (known_of new_values x)) (elsewhere y other) ∙ absorbs_through (known_of s.values y) (known_of s.values x) (known_of new_values x) f (more x (cases_eq x a)))
         rises x y (inr other) (inr (inl j)) = inr (inl (inr j))
-        rises x y (inr other) (inr (inr (p, inl same, q))) = inl (ap (absorbs (value_of new_values x)) (elsewhere y other ∙ q) ∙ subst (λ z. absorbs (value_of new_values z) v ≡ true) same (ap (λ w. absorbs w v) (there h) ∙ absorbs_right (value_of s.values a) v))
+        rises x y (inr other) (inr (inr (p, inl same, q))) = inl (ap (absorbs (known_of new_values x)) (elsewhere y other ∙ q) ∙ subst (λ z. absorbs (known_of new_values z) v ≡ true) same (ap (λ w. absorbs w v) (there h) ∙ absorbs_right (known_of s.values a) v))
         rises x y (inr other) (inr (inr (p, inr j, q))) = inr (inr (p, j, elsewhere y other ∙ q))
 
-        go : (c : Bool) → absorbs (value_of s.values a) v ≡ c → (x y : ℕ) → Among y (row rows x) → (absorbs (value_of (cond c s (record { values = new_values; news = a ∷ s.news })).values x) (value_of (cond c s (record { values = new_values; news = a ∷ s.news })).values y) ≡ true) ⊎ (Among y (cond c s (record { values = new_values; news = a ∷ s.news })).news ⊎ ((y ≡ b) × Among x rest × (value_of (cond c s (record { values = new_values; news = a ∷ s.news })).values y ≡ v)))
+        go : (c : Bool) → absorbs (known_of s.values a) v ≡ c → (x y : ℕ) → Among y (row rows x) → (absorbs (known_of (cond c s (record { values = new_values; news = a ∷ s.news })).values x) (known_of (cond c s (record { values = new_values; news = a ∷ s.news })).values y) ≡ true) ⊎ (Among y (cond c s (record { values = new_values; news = a ∷ s.news })).news ⊎ ((y ≡ b) × Among x rest × (known_of (cond c s (record { values = new_values; news = a ∷ s.news })).values y ≡ v)))
         go true e x y i = stays e x y (t x y i)
         go false e x y i = rises x y (cases_eq y a) (t x y i)
 
   told_all : (n b : ℕ) (v : Terminals) (s : Spread) (rest : List ℕ) → Spreads n s → All (λ x. x < n) rest → ((x : ℕ) → Among x rest → Holds v x) → Told b v rest s → Raised n s (raised_all s rest v) × Told b v [] (raised_all s rest v)
-  told_all n b v s [] k l h t = (record { spreads = k; grows = λ x. absorbs_itself (value_of s.values x); less = omega arith }, t)
+  told_all n b v s [] k l h t = (record { spreads = k; grows = λ x. absorbs_itself (known_of s.values x); less = omega arith }, t)
   told_all n b v s (a ∷ rest) k l h t =
       let in' : a < n = All-head (λ x. x < n) a rest l in
-      let one : Raised n s (raised s a v) = raises n s a v k in' (h a (inl refl)) in
-      let more : Raised n (raised s a v) (raised_all (raised s a v) rest v) × Told b v [] (raised_all (raised s a v) rest v) =
-      told_all n b v (raised s a v) rest one.spreads (All-tail (λ x. x < n) a rest l) (λ x i. h x (inr i)) (told_on n s a v b rest (subst (λ m. a < m) (sym k.size) in') t) in (
+      let one : Raised n s (spread_raised s a v) = raises n s a v k in' (h a (inl refl)) in
+      let more : Raised n (spread_raised s a v) (raised_all (spread_raised s a v) rest v) × Told b v [] (raised_all (spread_raised s a v) rest v) =
+      told_all n b v (spread_raised s a v) rest one.spreads (All-tail (λ x. x < n) a rest l) (λ x i. h x (inr i)) (told_on n s a v b rest (subst (λ m. a < m) (sym k.size) in') t) in (
         record {
           spreads = more.0.spreads;
-          grows = λ x. absorbs_through (value_of s.values x) (value_of (raised s a v).values x) (value_of (raised_all (raised s a v) rest v).values x) (one.grows x) (more.0.grows x);
-          less = (let e : work (raised s a v) ≤ work s = one.less in let f : work (raised_all (raised s a v) rest v) ≤ work (raised s a v) = more.0.less in omega (arith, e, f));
+          grows = λ x. absorbs_through (known_of s.values x) (known_of (spread_raised s a v).values x) (known_of (raised_all (spread_raised s a v) rest v).values x) (one.grows x) (more.0.grows x);
+          less = (let e : work (spread_raised s a v) ≤ work s = one.less in let f : work (raised_all (spread_raised s a v) rest v) ≤ work (spread_raised s a v) = more.0.less in omega (arith, e, f));
         },
         more.1,
       )
 
   -- each number knows the terminals in which it ends
   abbrev pub Ended : List (ℕ × ℕ) → Spread → Type 0
-  Ended from s = (a t : ℕ) → Pair a t from → absorbs (value_of s.values a) (those.One t) ≡ true
+  Ended from s = (a t : ℕ) → Pair a t from → absorbs (known_of s.values a) (those.One t) ≡ true
 
   -- what leads to a number knows what it knows, or will be told
   abbrev pub Closed : Spread → Type 0
-  Closed s = (x y : ℕ) → Among y (row rows x) → (absorbs (value_of s.values x) (value_of s.values y) ≡ true) ⊎ Among y s.news
+  Closed s = (x y : ℕ) → Among y (row rows x) → (absorbs (known_of s.values x) (known_of s.values y) ≡ true) ⊎ Among y s.news
 
   pub closed_told : (b : ℕ) (v : Terminals) (s : Spread) → Told b v [] s → Closed s
   closed_told b v s t x y i = go (t x y i)
     where
-      go : (absorbs (value_of s.values x) (value_of s.values y) ≡ true) ⊎ (Among y s.news ⊎ ((y ≡ b) × ⊥ × (value_of s.values y ≡ v))) → (absorbs (value_of s.values x) (value_of s.values y) ≡ true) ⊎ Among y s.news
+      go : (absorbs (known_of s.values x) (known_of s.values y) ≡ true) ⊎ (Among y s.news ⊎ ((y ≡ b) × ⊥ × (known_of s.values y ≡ v))) → (absorbs (known_of s.values x) (known_of s.values y) ≡ true) ⊎ Among y s.news
       go (inl e) = inl e
       go (inr (inl j)) = inr j
       go (inr (inr w)) = absurd w.1
@@ -294,27 +294,27 @@ module _ (rows : List (List ℕ)) (ends : List (ℕ × ℕ)) where
   told_closed b v rest s t x y i = elim (t x y i) [ inl e ↦ inl e | inr j ↦ inr (inl j) ]
 
   pub ends_all : (n : ℕ) (s : Spread) (more : List (ℕ × ℕ)) → Spreads n s → Closed s → All (λ end. end.0 < n) more → ((a t : ℕ) → Pair a t more → Pair a t ends) → Raised n s (with_ends s more) × Closed (with_ends s more) × Ended more (with_ends s more)
-  ends_all n s [] k t l h = (record { spreads = k; grows = λ x. absorbs_itself (value_of s.values x); less = omega arith }, t, (λ a u i. absurd i))
+  ends_all n s [] k t l h = (record { spreads = k; grows = λ x. absorbs_itself (known_of s.values x); less = omega arith }, t, (λ a u i. absurd i))
   ends_all n s (end ∷ more) k t l h =
       let v : Terminals = those.One end.1 in
       let in' : end.0 < n = All-head (λ e. e.0 < n) end more l in
       let inside : end.0 < length s.values = subst (λ m. end.0 < m) (sym k.size) in' in
-      let one : Raised n s (raised s end.0 v) = raises n s end.0 v k in' (record { there = end.0; reached = Leads.itself end.0; end = h end.0 end.1 (inl refl) }) in
-      let rest : Raised n (raised s end.0 v) (with_ends (raised s end.0 v) more) × Closed (with_ends (raised s end.0 v) more) × Ended more (with_ends (raised s end.0 v) more) =
-      ends_all n (raised s end.0 v) more one.spreads (closed_told 0 v (raised s end.0 v) (told_on n s end.0 v 0 [] inside (told_closed 0 v (end.0 ∷ []) s t))) (All-tail (λ e. e.0 < n) end more l) (λ a u i. h a u (inr i)) in (
+      let one : Raised n s (spread_raised s end.0 v) = raises n s end.0 v k in' (record { there = end.0; reached = Leads.itself end.0; end = h end.0 end.1 (inl refl) }) in
+      let rest : Raised n (spread_raised s end.0 v) (with_ends (spread_raised s end.0 v) more) × Closed (with_ends (spread_raised s end.0 v) more) × Ended more (with_ends (spread_raised s end.0 v) more) =
+      ends_all n (spread_raised s end.0 v) more one.spreads (closed_told 0 v (spread_raised s end.0 v) (told_on n s end.0 v 0 [] inside (told_closed 0 v (end.0 ∷ []) s t))) (All-tail (λ e. e.0 < n) end more l) (λ a u i. h a u (inr i)) in (
         record {
           spreads = rest.0.spreads;
-          grows = λ x. absorbs_through (value_of s.values x) (value_of (raised s end.0 v).values x) (value_of (with_ends (raised s end.0 v) more).values x) (one.grows x) (rest.0.grows x);
-          less = (let e : work (raised s end.0 v) ≤ work s = one.less in let f : work (with_ends (raised s end.0 v) more) ≤ work (raised s end.0 v) = rest.0.less in omega (arith, e, f));
+          grows = λ x. absorbs_through (known_of s.values x) (known_of (spread_raised s end.0 v).values x) (known_of (with_ends (spread_raised s end.0 v) more).values x) (one.grows x) (rest.0.grows x);
+          less = (let e : work (spread_raised s end.0 v) ≤ work s = one.less in let f : work (with_ends (spread_raised s end.0 v) more) ≤ work (spread_raised s end.0 v) = rest.0.less in omega (arith, e, f));
         },
         rest.1,
         (λ a u i. ended inside rest.0.grows rest.2 a u i),
       )
     where
-      ended : end.0 < length s.values → ((x : ℕ) → absorbs (value_of (with_ends (raised s end.0 (those.One end.1)) more).values x) (value_of (raised s end.0 (those.One end.1)).values x) ≡ true) → Ended more (with_ends (raised s end.0 (those.One end.1)) more) → (a u : ℕ) → Pair a u (end ∷ more) → absorbs (value_of (with_ends (raised s end.0 (those.One end.1)) more).values a) (those.One u) ≡ true
+      ended : end.0 < length s.values → ((x : ℕ) → absorbs (known_of (with_ends (spread_raised s end.0 (those.One end.1)) more).values x) (known_of (spread_raised s end.0 (those.One end.1)).values x) ≡ true) → Ended more (with_ends (spread_raised s end.0 (those.One end.1)) more) → (a u : ℕ) → Pair a u (end ∷ more) → absorbs (known_of (with_ends (spread_raised s end.0 (those.One end.1)) more).values a) (those.One u) ≡ true
       ended inside grows later a u (inl e) =
-          subst (λ p. absorbs (value_of (with_ends (raised s end.0 (those.One end.1)) more).values p.0) (those.One p.1) ≡ true) e
-          (absorbs_through (those.One end.1) (value_of (raised s end.0 (those.One end.1)).values end.0) (value_of (with_ends (raised s end.0 (those.One end.1)) more).values end.0) (has n s end.0 (those.One end.1) inside) (grows end.0))
+          subst (λ p. absorbs (known_of (with_ends (spread_raised s end.0 (those.One end.1)) more).values p.0) (those.One p.1) ≡ true) e
+          (absorbs_through (those.One end.1) (known_of (spread_raised s end.0 (those.One end.1)).values end.0) (known_of (with_ends (spread_raised s end.0 (those.One end.1)) more).values end.0) (has n s end.0 (those.One end.1) inside) (grows end.0))
       ended inside grows later a u (inr i) = later a u i
 
   -- all that is known in the loop
@@ -330,7 +330,7 @@ module _ (rows : List (List ℕ)) (ends : List (ℕ × ℕ)) where
     holds = λ x. subst (λ v. Holds v x) (sym (nowhere n x)) tt;
   }
     where
-      nowhere : (k x : ℕ) → value_of (replicate k those.Nowhere) x ≡ those.Nowhere
+      nowhere : (k x : ℕ) → known_of (replicate k those.Nowhere) x ≡ those.Nowhere
       nowhere zero x = refl
       nowhere (suc k) zero = refl
       nowhere (suc k) (suc x) = nowhere k x
@@ -338,52 +338,52 @@ module _ (rows : List (List ℕ)) (ends : List (ℕ × ℕ)) where
   pub begins : (n : ℕ) → All (λ end. end.0 < n) ends → Knows n (with_ends (record { values = replicate n those.Nowhere; news = [] }) ends)
   begins n l =
       let all : Raised n (record { values = replicate n those.Nowhere; news = [] }) (with_ends (record { values = replicate n those.Nowhere; news = [] }) ends) × Closed (with_ends (record { values = replicate n those.Nowhere; news = [] }) ends) × Ended ends (with_ends (record { values = replicate n those.Nowhere; news = [] }) ends) =
-      ends_all n (record { values = replicate n those.Nowhere; news = [] }) ends (nothing_known n) (λ x y i. inl (nowhere (value_of (replicate n those.Nowhere) x) y)) l (λ a t i. i) in
+      ends_all n (record { values = replicate n those.Nowhere; news = [] }) ends (nothing_known n) (λ x y i. inl (nowhere (known_of (replicate n those.Nowhere) x) y)) l (λ a t i. i) in
       record { spreads = all.0.spreads; closed = all.1; ended = all.2 }
     where
-      nowhere_at : (k x : ℕ) → value_of (replicate k those.Nowhere) x ≡ those.Nowhere
+      nowhere_at : (k x : ℕ) → known_of (replicate k those.Nowhere) x ≡ those.Nowhere
       nowhere_at zero x = refl
       nowhere_at (suc k) zero = refl
       nowhere_at (suc k) (suc x) = nowhere_at k x
 
-      nowhere : (x : Terminals) (y : ℕ) → absorbs x (value_of (replicate n those.Nowhere) y) ≡ true
+      nowhere : (x : Terminals) (y : ℕ) → absorbs x (known_of (replicate n those.Nowhere) y) ≡ true
       nowhere x y = ap (absorbs x) (nowhere_at n y)
 
   -- a turn: the news of a number are handed on to those in its row backward
-  pub turn : (n b : ℕ) (values : List Terminals) (news back : List ℕ) → Knows n (record { values = values; news = b ∷ news }) → All (λ x. x < n) back → ((x : ℕ) → Among b (row rows x) → Among x back) → ((x : ℕ) → Among x back → Among b (row rows x)) → Knows n (raised_all (record { values = values; news = news }) back (value_of values b)) × (work (raised_all (record { values = values; news = news }) back (value_of values b)) < work (record { values = values; news = b ∷ news }))
+  pub turn : (n b : ℕ) (values : List Terminals) (news back : List ℕ) → Knows n (record { values = values; news = b ∷ news }) → All (λ x. x < n) back → ((x : ℕ) → Among b (row rows x) → Among x back) → ((x : ℕ) → Among x back → Among b (row rows x)) → Knows n (raised_all (record { values = values; news = news }) back (known_of values b)) × (work (raised_all (record { values = values; news = news }) back (known_of values b)) < work (record { values = values; news = b ∷ news }))
   turn n b values news back k l to from =
       let s : Spread = record { values = values; news = news } in
-      let done : Raised n s (raised_all s back (value_of values b)) × Told b (value_of values b) [] (raised_all s back (value_of values b)) =
-      told_all n b (value_of values b) s back (record { size = k.spreads.size; within = λ x i. k.spreads.within x (inr i); holds = k.spreads.holds }) l (λ x i. holds_before (value_of values b) x b (from x i) (k.spreads.holds b)) told in (
+      let done : Raised n s (raised_all s back (known_of values b)) × Told b (known_of values b) [] (raised_all s back (known_of values b)) =
+      told_all n b (known_of values b) s back (record { size = k.spreads.size; within = λ x i. k.spreads.within x (inr i); holds = k.spreads.holds }) l (λ x i. holds_before (known_of values b) x b (from x i) (k.spreads.holds b)) told in (
         record {
           spreads = done.0.spreads;
-          closed = closed_told b (value_of values b) (raised_all s back (value_of values b)) done.1;
-          ended = λ a t i. absorbs_through (those.One t) (value_of values a) (value_of (raised_all s back (value_of values b)).values a) (k.ended a t i) (done.0.grows a);
+          closed = closed_told b (known_of values b) (raised_all s back (known_of values b)) done.1;
+          ended = λ a t i. absorbs_through (those.One t) (known_of values a) (known_of (raised_all s back (known_of values b)).values a) (k.ended a t i) (done.0.grows a);
         },
-        (let e : work (raised_all s back (value_of values b)) ≤ work s = done.0.less in omega (arith, e)),
+        (let e : work (raised_all s back (known_of values b)) ≤ work s = done.0.less in omega (arith, e)),
       )
     where
-      told : Told b (value_of values b) back (record { values = values; news = news })
+      told : Told b (known_of values b) back (record { values = values; news = news })
       told x y i = go (k.closed x y i)
         where
-          go : (absorbs (value_of values x) (value_of values y) ≡ true) ⊎ Among y (b ∷ news) → (absorbs (value_of values x) (value_of values y) ≡ true) ⊎ (Among y news ⊎ ((y ≡ b) × Among x back × (value_of values y ≡ value_of values b)))
+          go : (absorbs (known_of values x) (known_of values y) ≡ true) ⊎ Among y (b ∷ news) → (absorbs (known_of values x) (known_of values y) ≡ true) ⊎ (Among y news ⊎ ((y ≡ b) × Among x back × (known_of values y ≡ known_of values b)))
           go (inl e) = inl e
-          go (inr (inl same)) = inr (inr (sym same, to x (subst (λ z. Among z (row rows x)) (sym same) i), ap (value_of values) (sym same)))
+          go (inr (inl same)) = inr (inr (sym same, to x (subst (λ z. Among z (row rows x)) (sym same) i), ap (known_of values) (sym same)))
           go (inr (inr j)) = inr (inl j)
 
   -- in the end all is known
-  absorbs_end : (n : ℕ) (s : Spread) → Knows n s → s.news ≡ [] → (a b t : ℕ) → Leads rows a b → Pair b t ends → absorbs (value_of s.values a) (those.One t) ≡ true
+  absorbs_end : (n : ℕ) (s : Spread) → Knows n s → s.news ≡ [] → (a b t : ℕ) → Leads rows a b → Pair b t ends → absorbs (known_of s.values a) (those.One t) ≡ true
   absorbs_end n s k e a _ t (Leads.itself _) i = k.ended a t i
-  absorbs_end n s k e a b t (Leads.onward _ c _ j rest) i = absorbs_through (those.One t) (value_of s.values c) (value_of s.values a) (absorbs_end n s k e c b t rest i) (known (k.closed a c j))
+  absorbs_end n s k e a b t (Leads.onward _ c _ j rest) i = absorbs_through (those.One t) (known_of s.values c) (known_of s.values a) (absorbs_end n s k e c b t rest i) (known (k.closed a c j))
     where
-      known : (absorbs (value_of s.values a) (value_of s.values c) ≡ true) ⊎ Among c s.news → absorbs (value_of s.values a) (value_of s.values c) ≡ true
+      known : (absorbs (known_of s.values a) (known_of s.values c) ≡ true) ⊎ Among c s.news → absorbs (known_of s.values a) (known_of s.values c) ≡ true
       known (inl f) = f
       known (inr m) = absurd (subst (λ l. Among c l) e m)
 
-  pub tells : (n : ℕ) (s : Spread) (a : ℕ) → Knows n s → s.news ≡ [] → Tells rows ends (value_of s.values a) a
-  tells n s a k e = go (value_of s.values a) (k.spreads.holds a) (λ t r. absorbs_end n s k e a r.there t r.reached r.end)
+  pub tells : (n : ℕ) (s : Spread) (a : ℕ) → Knows n s → s.news ≡ [] → AnswerTells rows ends (known_of s.values a) a
+  tells n s a k e = go (known_of s.values a) (k.spreads.holds a) (λ t r. absorbs_end n s k e a r.there t r.reached r.end)
     where
-      go : (v : Terminals) → Holds v a → ((t : ℕ) → ReachesEnd rows ends a t → absorbs v (those.One t) ≡ true) → Tells rows ends v a
+      go : (v : Terminals) → Holds v a → ((t : ℕ) → ReachesEnd rows ends a t → absorbs v (those.One t) ≡ true) → AnswerTells rows ends v a
       go those.Nowhere h all = λ t r. absurd (differ (all t r))
         where
           differ : false ≡ true → ⊥

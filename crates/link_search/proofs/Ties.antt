@@ -10,12 +10,12 @@ use Rattle.link_search.specs.declared.target.Target.TheVariants.{Name, End}
 use Rattle.link_search.specs.declared.terminal.Terminal.{Terminal}
 use Rattle.link_search.specs.Exports.{targets_of, leads_of}
 use Rattle.link_search.specs.Reaches.{Reaches, ReachesItself, ReachesRing}
-use Rattle.link_search.specs.Targets.{names_in}
+use Rattle.link_search.specs.Targets.{target_names}
 use Rattle.link_search.proofs.Members.{name_among, among_name, has_number, of_number, one_place, some_same}
 
 -- where names lead to names
 abbrev pub names_of : SetExports → Pair → List Pair
-names_of s p = names_in (targets_of s p)
+names_of s p = target_names (targets_of s p)
 
 pub further : (s : SetExports) (x y z : Target) → Reaches (leads_of s) x y → Among z (leads_of s y) → Reaches (leads_of s) x z
 further s x _ z (Reaches.itself _) i = Reaches.onward x z z i (Reaches.itself z)

@@ -11,26 +11,26 @@ use Rattle.link_search.specs.declared.rings.Mark.TheVariants as mark
 use Rattle.link_search.specs.declared.rings.Task.{Task}
 use Rattle.link_search.specs.declared.rings.Task.TheVariants as task
 use Rattle.link_search.specs.Steps.{Leads, LeadsOn, LeadsToRing}
-use Rattle.link_search.specs.Walked.{Walked, mark_of, is_new, is_ring, turns, entering, entered, any_turns, mark_for, left}
-use Rattle.link_search.specs.Keeping.{weight, number_in, WaysEnd, they_end, Linked, Seen, Handled, Knows, Within, Keeps, Turned}
+use Rattle.link_search.specs.Walked.{Walked, mark_of, is_new, is_ring, turns, enter_tasks, number_entered, any_turns, mark_for, number_left}
+use Rattle.link_search.specs.Keeping.{weight, task_number, WaysEnd, they_end, Linked, IsMet, Handled, Knows, Within, Keeps, Turned}
 use Rattle.link_search.proofs.Weight.{weight_entered, weight_left, length_entering}
 use Rattle.link_search.proofs.WaysEnding.{step_on, one_step, leads_to_none, ring_before}
 
 module _ (rows : List (List ℕ)) where
-  seen_more : (marks others : List Mark) (before after : List ℕ) (c : ℕ) → ((b : ℕ) → Seen rows marks before b → Seen rows others after b) → (b : ℕ) → Seen rows marks (c ∷ before) b → Seen rows others (c ∷ after) b
+  seen_more : (marks others : List Mark) (before after : List ℕ) (c : ℕ) → ((b : ℕ) → IsMet rows marks before b → IsMet rows others after b) → (b : ℕ) → IsMet rows marks (c ∷ before) b → IsMet rows others (c ∷ after) b
   seen_more marks others before after c h b (inl e) = later (h b (inl e))
     where
-      later : Seen rows others after b → Seen rows others (c ∷ after) b
+      later : IsMet rows others after b → IsMet rows others (c ∷ after) b
       later (inl f) = inl f
       later (inr f) = inr (inr f)
   seen_more marks others before after c h b (inr (inl e)) = inr (inl e)
   seen_more marks others before after c h b (inr (inr i)) = later (h b (inr i))
     where
-      later : Seen rows others after b → Seen rows others (c ∷ after) b
+      later : IsMet rows others after b → IsMet rows others (c ∷ after) b
       later (inl f) = inl f
       later (inr f) = inr (inr f)
 
-  handled_more : (marks others : List Mark) (before after : List ℕ) (ts : List Task) → ((b : ℕ) → Seen rows marks before b → Seen rows others after b) → Handled rows marks before ts → Handled rows others after ts
+  handled_more : (marks others : List Mark) (before after : List ℕ) (ts : List Task) → ((b : ℕ) → IsMet rows marks before b → IsMet rows others after b) → Handled rows marks before ts → Handled rows others after ts
   handled_more marks others before after [] h k = tt
   handled_more marks others before after (task.Enter c ∷ ts) h k = handled_more marks others (c ∷ before) (c ∷ after) ts (seen_more marks others before after c h) k
   handled_more marks others before after (task.Leave a ∷ ts) h k = ((λ b i. h b (k.0 b i)), handled_more marks others before after ts h k.1)
@@ -46,7 +46,7 @@ module _ (rows : List (List ℕ)) where
   now_entered : (marks : List Mark) (a : ℕ) (m : Mark) → a < length marks → is_new m ≡ false → is_new (mark_of (set marks a m) a) ≡ false
   now_entered marks a m h e = ap is_new (get_or-set_same marks a m mark.New h) ∙ e
 
-  among_entering : (t : Task) (bs : List ℕ) (ts : List Task) → Among t ts → Among t (entering bs ts)
+  among_entering : (t : Task) (bs : List ℕ) (ts : List Task) → Among t ts → Among t (enter_tasks bs ts)
   among_entering t [] ts i = i
   among_entering t (b ∷ bs) ts i = among_entering t bs (task.Enter b ∷ ts) (inr i)
 
@@ -56,7 +56,7 @@ module _ (rows : List (List ℕ)) where
   not_entered : (a c : ℕ) → task.Leave a ≡ task.Enter c → ⊥
   not_entered a c e = absurd cc
 
-  linked_entering : (bs : List ℕ) (ts : List Task) → Linked rows ts → ((b : ℕ) → Among b bs → (c : ℕ) → Among (task.Leave c) ts → LeadsOn rows c b) → Linked rows (entering bs ts)
+  linked_entering : (bs : List ℕ) (ts : List Task) → Linked rows ts → ((b : ℕ) → Among b bs → (c : ℕ) → Among (task.Leave c) ts → LeadsOn rows c b) → Linked rows (enter_tasks bs ts)
   linked_entering [] ts l h = l
   linked_entering (b ∷ bs) ts l h = linked_entering bs (task.Enter b ∷ ts) ((λ c i. h b (inl refl) c i), l) (λ d j c i. past d j c i)
     where
@@ -64,11 +64,11 @@ module _ (rows : List (List ℕ)) where
       past d j c (inl e) = absurd (not_left b c e)
       past d j c (inr i) = h d (inr j) c i
 
-  handled_entering : (marks : List Mark) (before bs : List ℕ) (ts : List Task) → Handled rows marks (bs ++ before) ts → Handled rows marks before (entering bs ts)
+  handled_entering : (marks : List Mark) (before bs : List ℕ) (ts : List Task) → Handled rows marks (bs ++ before) ts → Handled rows marks before (enter_tasks bs ts)
   handled_entering marks before [] ts h = h
   handled_entering marks before (b ∷ bs) ts h = handled_entering marks before bs (task.Enter b ∷ ts) h
 
-  within_entering : (n : ℕ) (bs : List ℕ) (ts : List Task) → All (λ b. b < n) bs → Within rows n ts → Within rows n (entering bs ts)
+  within_entering : (n : ℕ) (bs : List ℕ) (ts : List Task) → All (λ b. b < n) bs → Within rows n ts → Within rows n (enter_tasks bs ts)
   within_entering n [] ts h w = w
   within_entering n (b ∷ bs) ts h w = within_entering n bs (task.Enter b ∷ ts) (All-tail (λ c. c < n) b bs h) (All-head (λ c. c < n) b bs h, w)
 
@@ -94,7 +94,7 @@ module _ (rows : List (List ℕ)) where
       to_enter = λ b i. entered_now b i;
     }
       where
-        seen : (b : ℕ) → Seen rows marks (a ∷ []) b → Seen rows marks [] b
+        seen : (b : ℕ) → IsMet rows marks (a ∷ []) b → IsMet rows marks [] b
         seen b (inl f) = inl f
         seen b (inr (inl same)) = inl (subst (λ c. is_new (mark_of marks c) ≡ false) same e)
         seen b (inr (inr none)) = absurd none
@@ -104,11 +104,11 @@ module _ (rows : List (List ℕ)) where
         there x (inr i) = i
 
         entered_now : (b : ℕ) → Among (task.Enter b) (task.Enter a ∷ ts) → (is_new (mark_of marks b) ≡ false) ⊎ Among (task.Enter b) ts
-        entered_now b (inl f) = inl (subst (λ c. is_new (mark_of marks c) ≡ false) (ap number_in f) e)
+        entered_now b (inl f) = inl (subst (λ c. is_new (mark_of marks c) ≡ false) (ap task_number f) e)
         entered_now b (inr i) = inr i
 
     -- a new number is entered
-    pub enters : AreWithin n rows → Keeps rows n (record { marks = marks; tasks = task.Enter a ∷ ts }) → is_new (mark_of marks a) ≡ true → Turned rows n (record { marks = marks; tasks = task.Enter a ∷ ts }) (entered (record { marks = marks; tasks = ts }) a (row rows a))
+    pub enters : AreWithin n rows → Keeps rows n (record { marks = marks; tasks = task.Enter a ∷ ts }) → is_new (mark_of marks a) ≡ true → Turned rows n (record { marks = marks; tasks = task.Enter a ∷ ts }) (number_entered (record { marks = marks; tasks = ts }) a (row rows a))
     enters r k e =
         let h : a < length marks = subst (λ m. a < m) (sym k.size) k.within.0 in
         record {
@@ -119,35 +119,35 @@ module _ (rows : List (List ℕ)) where
             handled = handled_entering (set marks a mark.Open) [] (row rows a) (task.Leave a ∷ ts) ((λ b i. inr (among_left b (row rows a) [] i)), handled_more marks (set marks a mark.Open) (a ∷ []) (row rows a ++ []) ts (seen h) k.handled);
             knows = λ x. knows h x (cases_eq x a);
           };
-          less = (let one : weight (set marks a mark.Open) rows + length (row rows a) + 2 ≡ weight marks rows = weight_entered marks rows a mark.Open h e refl in let two : length (entering (row rows a) (task.Leave a ∷ ts)) ≡ length (row rows a) + length (task.Leave a ∷ ts) = length_entering (row rows a) (task.Leave a ∷ ts) in omega (arith, one, two));
+          less = (let one : weight (set marks a mark.Open) rows + length (row rows a) + 2 ≡ weight marks rows = weight_entered marks rows a mark.Open h e refl in let two : length (enter_tasks (row rows a) (task.Leave a ∷ ts)) ≡ length (row rows a) + length (task.Leave a ∷ ts) = length_entering (row rows a) (task.Leave a ∷ ts) in omega (arith, one, two));
           grows = λ b f. entered_stays marks a b mark.Open h refl f;
           to_enter = λ b i. entered_now h b i;
         }
       where
         links : (b : ℕ) → Among b (row rows a) → (c : ℕ) → Among (task.Leave c) (task.Leave a ∷ ts) → LeadsOn rows c b
-        links b i c (inl f) = subst (λ d. LeadsOn rows d b) (ap number_in f) (one_step rows a b i)
+        links b i c (inl f) = subst (λ d. LeadsOn rows d b) (ap task_number f) (one_step rows a b i)
         links b i c (inr j) = step_on rows c a b (k.linked.0 c j) i
 
-        seen : a < length marks → (b : ℕ) → Seen rows marks (a ∷ []) b → Seen rows (set marks a mark.Open) (row rows a ++ []) b
+        seen : a < length marks → (b : ℕ) → IsMet rows marks (a ∷ []) b → IsMet rows (set marks a mark.Open) (row rows a ++ []) b
         seen h b (inl f) = inl (entered_stays marks a b mark.Open h refl f)
         seen h b (inr (inl same)) = inl (subst (λ c. is_new (mark_of (set marks a mark.Open) c) ≡ false) same (now_entered marks a mark.Open h refl))
         seen h b (inr (inr none)) = absurd none
 
-        there : (x : ℕ) → Among (task.Leave x) (task.Enter a ∷ ts) → Among (task.Leave x) (entering (row rows a) (task.Leave a ∷ ts))
+        there : (x : ℕ) → Among (task.Leave x) (task.Enter a ∷ ts) → Among (task.Leave x) (enter_tasks (row rows a) (task.Leave a ∷ ts))
         there x (inl f) = absurd (not_left a x f)
         there x (inr i) = among_entering (task.Leave x) (row rows a) (task.Leave a ∷ ts) (inr i)
 
-        knows : a < length marks → (x : ℕ) → (x ≡ a) ⊎ (x ≢ a) → Knows rows (mark_of (set marks a mark.Open) x) (entering (row rows a) (task.Leave a ∷ ts)) x
+        knows : a < length marks → (x : ℕ) → (x ≡ a) ⊎ (x ≢ a) → Knows rows (mark_of (set marks a mark.Open) x) (enter_tasks (row rows a) (task.Leave a ∷ ts)) x
         knows h x (inl same) =
-            subst (λ y. Knows rows (mark_of (set marks a mark.Open) y) (entering (row rows a) (task.Leave a ∷ ts)) y) (sym same)
-            (subst (λ m. Knows rows m (entering (row rows a) (task.Leave a ∷ ts)) a) (sym (get_or-set_same marks a mark.Open mark.New h))
+            subst (λ y. Knows rows (mark_of (set marks a mark.Open) y) (enter_tasks (row rows a) (task.Leave a ∷ ts)) y) (sym same)
+            (subst (λ m. Knows rows m (enter_tasks (row rows a) (task.Leave a ∷ ts)) a) (sym (get_or-set_same marks a mark.Open mark.New h))
             (among_entering (task.Leave a) (row rows a) (task.Leave a ∷ ts) (inl refl)))
         knows h x (inr other) =
-            subst (λ m. Knows rows m (entering (row rows a) (task.Leave a ∷ ts)) x) (sym (get_or-set_other marks a x mark.Open mark.New other))
-            (knows_kept (mark_of marks x) (task.Enter a ∷ ts) (entering (row rows a) (task.Leave a ∷ ts)) x (there x) (k.knows x))
+            subst (λ m. Knows rows m (enter_tasks (row rows a) (task.Leave a ∷ ts)) x) (sym (get_or-set_other marks a x mark.Open mark.New other))
+            (knows_kept (mark_of marks x) (task.Enter a ∷ ts) (enter_tasks (row rows a) (task.Leave a ∷ ts)) x (there x) (k.knows x))
 
-        entered_now : a < length marks → (b : ℕ) → Among (task.Enter b) (task.Enter a ∷ ts) → (is_new (mark_of (set marks a mark.Open) b) ≡ false) ⊎ Among (task.Enter b) (entering (row rows a) (task.Leave a ∷ ts))
-        entered_now h b (inl f) = inl (subst (λ c. is_new (mark_of (set marks a mark.Open) c) ≡ false) (ap number_in f) (now_entered marks a mark.Open h refl))
+        entered_now : a < length marks → (b : ℕ) → Among (task.Enter b) (task.Enter a ∷ ts) → (is_new (mark_of (set marks a mark.Open) b) ≡ false) ⊎ Among (task.Enter b) (enter_tasks (row rows a) (task.Leave a ∷ ts))
+        entered_now h b (inl f) = inl (subst (λ c. is_new (mark_of (set marks a mark.Open) c) ≡ false) (ap task_number f) (now_entered marks a mark.Open h refl))
         entered_now h b (inr i) = inr (among_entering (task.Enter b) (row rows a) (task.Leave a ∷ ts) (inr i))
 
     found : (test : ℕ → Bool) (bs : List ℕ) → list_any test bs ≡ true → (b : ℕ) × Among b bs × (test b ≡ true)
@@ -175,13 +175,13 @@ module _ (rows : List (List ℕ)) where
 
     ring_by : Linked rows (task.Leave a ∷ ts) → (m : Mark) (b : ℕ) → Among b (row rows a) → turns m ≡ true → Knows rows m (task.Leave a ∷ ts) b → LeadsToRing rows a
     ring_by l mark.New b i f k = absurd cc
-    ring_by l mark.Open b i f (inl same) = record { there = a; reached = Leads.itself a; ring = one_step rows a a (subst (λ c. Among c (row rows a)) (sym (ap number_in same)) i) }
+    ring_by l mark.Open b i f (inl same) = record { there = a; reached = Leads.itself a; ring = one_step rows a a (subst (λ c. Among c (row rows a)) (sym (ap task_number same)) i) }
     ring_by l mark.Open b i f (inr j) = record { there = a; reached = Leads.itself a; ring = record { next = b; step = i; rest = Leads.onward b (l.0 b j).next a (l.0 b j).step (l.0 b j).rest } }
     ring_by l mark.Straight b i f k = absurd cc
     ring_by l mark.Ring b i f k = ring_before rows a b i k
 
     -- a number is left
-    pub leaves : Keeps rows n (record { marks = marks; tasks = task.Leave a ∷ ts }) → Turned rows n (record { marks = marks; tasks = task.Leave a ∷ ts }) (left (record { marks = marks; tasks = ts }) a (row rows a))
+    pub leaves : Keeps rows n (record { marks = marks; tasks = task.Leave a ∷ ts }) → Turned rows n (record { marks = marks; tasks = task.Leave a ∷ ts }) (number_left (record { marks = marks; tasks = ts }) a (row rows a))
     leaves k =
         let h : a < length marks = subst (λ m. a < m) (sym k.size) k.within.0 in
         let m : Mark = mark_for (any_turns marks (row rows a)) in
@@ -202,11 +202,11 @@ module _ (rows : List (List ℕ)) where
         old true = refl
         old false = refl
 
-        seen : a < length marks → (b : ℕ) → Seen rows marks [] b → Seen rows (set marks a (mark_for (any_turns marks (row rows a)))) [] b
+        seen : a < length marks → (b : ℕ) → IsMet rows marks [] b → IsMet rows (set marks a (mark_for (any_turns marks (row rows a)))) [] b
         seen h b (inl f) = inl (entered_stays marks a b (mark_for (any_turns marks (row rows a))) h (old (any_turns marks (row rows a))) f)
         seen h b (inr none) = absurd none
 
-        not_new : (b : ℕ) → Seen rows marks [] b → is_new (mark_of marks b) ≡ false
+        not_new : (b : ℕ) → IsMet rows marks [] b → is_new (mark_of marks b) ≡ false
         not_new b (inl e) = e
         not_new b (inr none) = absurd none
 
@@ -215,7 +215,7 @@ module _ (rows : List (List ℕ)) where
         told false e = they_end a (λ b i. straight (mark_of marks b) b (not_new b (k.handled.0 b i)) (none (λ c. turns (mark_of marks c)) (row rows a) e b i) (k.knows b))
 
         there : (x : ℕ) → x ≢ a → Among (task.Leave x) (task.Leave a ∷ ts) → Among (task.Leave x) ts
-        there x other (inl f) = absurd (other (sym (ap number_in f)))
+        there x other (inl f) = absurd (other (sym (ap task_number f)))
         there x other (inr i) = i
 
         knows : a < length marks → (x : ℕ) → (x ≡ a) ⊎ (x ≢ a) → Knows rows (mark_of (set marks a (mark_for (any_turns marks (row rows a)))) x) ts x

@@ -3,7 +3,7 @@ use Rattle.std.proofs.Common.{◌≡◌, ◌<◌, ◌≤◌, ◌+◌, ℕ, zero,
 use Rattle.reachability.specs.Rows.{row}
 use Rattle.link_search.specs.declared.rings.Mark.{Mark}
 use Rattle.link_search.specs.declared.rings.Task.{Task}
-use Rattle.link_search.specs.Walked.{mark_of, is_new, entering}
+use Rattle.link_search.specs.Walked.{mark_of, is_new, enter_tasks}
 use Rattle.link_search.specs.Keeping.{weight}
 
 pub weight_entered : (ms : List Mark) (rows : List (List ℕ)) (a : ℕ) (m : Mark) → a < length ms → is_new (mark_of ms a) ≡ true → is_new m ≡ false → weight (set ms a m) rows + length (row rows a) + 2 ≡ weight ms rows
@@ -20,6 +20,6 @@ weight_left (n ∷ ms) (r ∷ rows) zero m f = rw f (omega arith)
 weight_left (n ∷ ms) [] (suc a) m f = let i : weight (set ms a m) [] ≤ weight ms [] = weight_left ms [] a m f in omega (arith, i)
 weight_left (n ∷ ms) (r ∷ rows) (suc a) m f = let i : weight (set ms a m) rows ≤ weight ms rows = weight_left ms rows a m f in omega (arith, i)
 
-pub length_entering : (bs : List ℕ) (ts : List Task) → length (entering bs ts) ≡ length bs + length ts
+pub length_entering : (bs : List ℕ) (ts : List Task) → length (enter_tasks bs ts) ≡ length bs + length ts
 length_entering [] ts = omega arith
-length_entering (b ∷ bs) ts = let i : length (entering bs (Task.Enter b ∷ ts)) ≡ length bs + length (Task.Enter b ∷ ts) = length_entering bs (Task.Enter b ∷ ts) in omega (arith, i)
+length_entering (b ∷ bs) ts = let i : length (enter_tasks bs (Task.Enter b ∷ ts)) ≡ length bs + length (Task.Enter b ∷ ts) = length_entering bs (Task.Enter b ∷ ts) in omega (arith, i)

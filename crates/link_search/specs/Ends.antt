@@ -27,7 +27,7 @@ abbrev pub AreApart : {A : Type 0} → List A → Type 0
 AreApart {A} xs = (i j : ℕ) (x : A) → slice_get xs i ≡ Some x → slice_get xs j ≡ Some x → i ≡ j
 
 -- the same ends, with numbers of the terminals
-abbrev pub AreNumbered : List Terminal → List (ℕ × ℕ) → List (ℕ × Terminal) → Type 0
-AreNumbered ts [] [] = Unit {0}
-AreNumbered ts (e ∷ es) (x ∷ xs) = (e.0 ≡ x.0) × (slice_get ts e.1 ≡ Some x.1) × AreNumbered ts es xs
-AreNumbered ts _ _ = ⊥
+abbrev pub EndsAreNumbered : List Terminal → List (ℕ × ℕ) → List (ℕ × Terminal) → Type 0
+EndsAreNumbered ts [] [] = Unit {0}
+EndsAreNumbered ts (e ∷ es) (x ∷ xs) = (e.0 ≡ x.0) × (slice_get ts e.1 ≡ Some x.1) × EndsAreNumbered ts es xs
+EndsAreNumbered ts _ _ = ⊥

@@ -7,7 +7,7 @@ use Rattle.link_search.specs.declared.target.Target.{Target}
 use Rattle.link_search.specs.declared.target.Target.TheVariants.{Name, End}
 use Rattle.link_search.specs.declared.exports.ModuleExports.{ModuleExports}
 use Rattle.link_search.specs.declared.exports.SetExports.{SetExports}
-use Rattle.link_search.specs.Targets.{names_in}
+use Rattle.link_search.specs.Targets.{target_names}
 
 -- the name as each of these modules exports it
 abbrev pub passed_on : ℕ → List ℕ → List Target
@@ -40,4 +40,4 @@ leads_of s (End t) = []
 
 -- names lead only to names that there are
 abbrev pub StaysWithin : SetExports → Type 0
-StaysWithin s = (p q : Pair) → Among q (names_in (targets_of s p)) → (q.0 < length s.modules.items) × (q.1 < s.names)
+StaysWithin s = (p q : Pair) → Among q (target_names (targets_of s p)) → (q.0 < length s.modules.items) × (q.1 < s.names)

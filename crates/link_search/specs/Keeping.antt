@@ -24,9 +24,9 @@ abbrev pub left_to_do : List (List ℕ) → Walked → ℕ
 left_to_do rows w = weight w.marks rows + length w.tasks
 
 -- the number that a task is about
-abbrev pub number_in : Task → ℕ
-number_in (task.Enter a) = a
-number_in (task.Leave a) = a
+abbrev pub task_number : Task → ℕ
+task_number (task.Enter a) = a
+task_number (task.Leave a) = a
 
 module _ (rows : List (List ℕ)) where
   -- all ways from a number end
@@ -36,17 +36,17 @@ module _ (rows : List (List ℕ)) where
   -- what is to be left leads to all that is done before
   abbrev pub Linked : List Task → Type 0
   Linked [] = Unit {0}
-  Linked (t ∷ ts) = ((a : ℕ) → Among (task.Leave a) ts → LeadsOn rows a (number_in t)) × Linked ts
+  Linked (t ∷ ts) = ((a : ℕ) → Among (task.Leave a) ts → LeadsOn rows a (task_number t)) × Linked ts
 
   -- the number was entered, or is to be entered before
-  abbrev pub Seen : List Mark → List ℕ → ℕ → Type 0
-  Seen marks before b = (is_new (mark_of marks b) ≡ false) ⊎ Among b before
+  abbrev pub IsMet : List Mark → List ℕ → ℕ → Type 0
+  IsMet marks before b = (is_new (mark_of marks b) ≡ false) ⊎ Among b before
 
   -- what a number leads to is seen before it is left
   abbrev pub Handled : List Mark → List ℕ → List Task → Type 0
   Handled marks before [] = Unit {0}
   Handled marks before (task.Enter b ∷ ts) = Handled marks (b ∷ before) ts
-  Handled marks before (task.Leave a ∷ ts) = ((b : ℕ) → Among b (row rows a) → Seen marks before b) × Handled marks before ts
+  Handled marks before (task.Leave a ∷ ts) = ((b : ℕ) → Among b (row rows a) → IsMet marks before b) × Handled marks before ts
 
   -- what is known of a number by its mark
   abbrev pub Knows : Mark → List Task → ℕ → Type 0
@@ -58,7 +58,7 @@ module _ (rows : List (List ℕ)) where
   -- the numbers of tasks have rows
   abbrev pub Within : ℕ → List Task → Type 0
   Within n [] = Unit {0}
-  Within n (t ∷ ts) = (number_in t < n) × Within n ts
+  Within n (t ∷ ts) = (task_number t < n) × Within n ts
 
   -- what stands between two turns
   pub record Keeps (n : ℕ) (w : Walked) : Type 0 where

@@ -21,10 +21,10 @@ module _ (rows : List (List ℕ)) (ends : List (ℕ × ℕ)) where
     pub differ : one ≡ other → ⊥
 
   -- what an answer says of a number
-  abbrev pub Tells : Terminals → ℕ → Type 0
-  Tells those.Nowhere a = (t : ℕ) → ReachesEnd a t → ⊥
-  Tells (those.One t) a = ReachesEnd a t × ((u : ℕ) → ReachesEnd a u → u ≡ t)
-  Tells those.Several a = ReachesTwo a
+  abbrev pub AnswerTells : Terminals → ℕ → Type 0
+  AnswerTells those.Nowhere a = (t : ℕ) → ReachesEnd a t → ⊥
+  AnswerTells (those.One t) a = ReachesEnd a t × ((u : ℕ) → ReachesEnd a u → u ≡ t)
+  AnswerTells those.Several a = ReachesTwo a
 
 -- those of both
 abbrev pub joined : Terminals → Terminals → Terminals
@@ -46,22 +46,22 @@ pub record Spread : Type 0 where
   pub news : List ℕ
 
 -- what is known of a number
-abbrev pub value_of : List Terminals → ℕ → Terminals
-value_of values a = slice_index_or values a those.Nowhere
+abbrev pub known_of : List Terminals → ℕ → Terminals
+known_of values a = slice_index_or values a those.Nowhere
 
 -- a number reaches these, too
-abbrev pub raised : Spread → ℕ → Terminals → Spread
-raised s a v = cond (absorbs (value_of s.values a) v) s (record { values = set s.values a (joined (value_of s.values a) v); news = a ∷ s.news })
+abbrev pub spread_raised : Spread → ℕ → Terminals → Spread
+spread_raised s a v = cond (absorbs (known_of s.values a) v) s (record { values = set s.values a (joined (known_of s.values a) v); news = a ∷ s.news })
 
 -- numbers reach these, too
 abbrev pub raised_all : Spread → List ℕ → Terminals → Spread
 raised_all s [] v = s
-raised_all s (a ∷ more) v = raised_all (raised s a v) more v
+raised_all s (a ∷ more) v = raised_all (spread_raised s a v) more v
 
 -- numbers end in terminals
 abbrev pub with_ends : Spread → List (ℕ × ℕ) → Spread
 with_ends s [] = s
-with_ends s (end ∷ more) = with_ends (raised s end.0 (those.One end.1)) more
+with_ends s (end ∷ more) = with_ends (spread_raised s end.0 (those.One end.1)) more
 
 -- each step of the rows from a number on, backward
 abbrev pub backward_from : ℕ → List (List ℕ) → List (ℕ × ℕ)

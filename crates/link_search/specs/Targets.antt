@@ -13,10 +13,10 @@ is_end (Name m k) = false
 is_end (End t) = true
 
 -- the names among targets, each as a module and a name
-abbrev pub names_in : List Target → List Pair
-names_in [] = []
-names_in (Name m k ∷ ts) = (m, k) ∷ names_in ts
-names_in (End t ∷ ts) = names_in ts
+abbrev pub target_names : List Target → List Pair
+target_names [] = []
+target_names (Name m k ∷ ts) = (m, k) ∷ target_names ts
+target_names (End t ∷ ts) = target_names ts
 
 -- names are told by numbers that there are
 abbrev pub IsTargetWithin : (modules names : ℕ) → Target → Type 0
@@ -28,14 +28,14 @@ AreTargetsWithin modules names [] = Unit {0}
 AreTargetsWithin modules names (t ∷ ts) = IsTargetWithin modules names t × AreTargetsWithin modules names ts
 
 -- what a target comes to
-abbrev pub ComesTo : (Target → List Target) → Target → Found → Type 0
-ComesTo leads t found.Missing = ReachesNone leads is_end t × (ReachesRing leads t → ⊥)
-ComesTo leads t found.Ring = ReachesNone leads is_end t × ReachesRing leads t
-ComesTo leads t (found.One e) = ReachesOne leads is_end t (End e)
-ComesTo leads t found.Ambiguous = ReachesTwo leads is_end t
+abbrev pub TargetComesTo : (Target → List Target) → Target → Found → Type 0
+TargetComesTo leads t found.Missing = ReachesNone leads is_end t × (ReachesRing leads t → ⊥)
+TargetComesTo leads t found.Ring = ReachesNone leads is_end t × ReachesRing leads t
+TargetComesTo leads t (found.One e) = ReachesOne leads is_end t (End e)
+TargetComesTo leads t found.Ambiguous = ReachesTwo leads is_end t
 
 -- what each comes to, in order
 abbrev pub AreFound : (Target → List Target) → List Target → List Found → Type 0
 AreFound leads [] [] = Unit {0}
-AreFound leads (t ∷ ts) (f ∷ fs) = ComesTo leads t f × AreFound leads ts fs
+AreFound leads (t ∷ ts) (f ∷ fs) = TargetComesTo leads t f × AreFound leads ts fs
 AreFound leads _ _ = ⊥

@@ -32,13 +32,13 @@ turns mark.Ring = true
 turns _ = false
 
 -- the numbers are entered, the last one next
-abbrev pub entering : List ℕ → List Task → List Task
-entering [] ts = ts
-entering (b ∷ bs) ts = entering bs (task.Enter b ∷ ts)
+abbrev pub enter_tasks : List ℕ → List Task → List Task
+enter_tasks [] ts = ts
+enter_tasks (b ∷ bs) ts = enter_tasks bs (task.Enter b ∷ ts)
 
 -- a number is entered, with its row
-abbrev pub entered : Walked → ℕ → List ℕ → Walked
-entered w a r = record { marks = set w.marks a mark.Open; tasks = entering r (task.Leave a ∷ w.tasks) }
+abbrev pub number_entered : Walked → ℕ → List ℕ → Walked
+number_entered w a r = record { marks = set w.marks a mark.Open; tasks = enter_tasks r (task.Leave a ∷ w.tasks) }
 
 -- one of the numbers is open, or leads to a ring
 abbrev pub any_turns : List Mark → List ℕ → Bool
@@ -50,5 +50,5 @@ mark_for true = mark.Ring
 mark_for false = mark.Straight
 
 -- a number is left, with its row
-abbrev pub left : Walked → ℕ → List ℕ → Walked
-left w a r = record w { marks = set w.marks a (mark_for (any_turns w.marks r)) }
+abbrev pub number_left : Walked → ℕ → List ℕ → Walked
+number_left w a r = record w { marks = set w.marks a (mark_for (any_turns w.marks r)) }

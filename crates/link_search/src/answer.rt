@@ -1,6 +1,6 @@
 //! What was found of names, and what it says of a target.
 ghost use Rattle.std.specs.Prelude.{◌≡◌};
-ghost use Rattle.link_search.specs.Answers.{answer_at, answer};
+ghost use Rattle.link_search.specs.Answers.{answer_at, target_answer};
 
 use crate::target::Target;
 use crate::terminal::Terminal;
@@ -49,7 +49,7 @@ impl Search {
 
     // What a target comes to. A name that wasn't met is missing.
     pub fn answer(&self, target: &Target) -> Found
-        ensures { result ≡ answer self.now target.now }
+        ensures { result ≡ target_answer self.now target.now }
     {
         match target {
             Target::End(terminal) => Found::One(*terminal),

@@ -1,7 +1,7 @@
 //! The terminals of names, which get numbers as they are met.
 ghost use Rattle.std.specs.Prelude.{◌≡◌, ◌≤◌, Some, length, slice_get, IfOk, OnOk};
 ghost use Rattle.link_search.specs.declared.terminal.Terminal.{Terminal};
-ghost use Rattle.link_search.specs.Ends.{Extends, AreApart, AreNumbered, ends_from};
+ghost use Rattle.link_search.specs.Ends.{Extends, AreApart, EndsAreNumbered, ends_from};
 
 use crate::exports::SetExports;
 use crate::terminal::Terminal;
@@ -48,7 +48,7 @@ pub(crate) fn numbered(
 ) -> Result<Vec<(u32, u32)>, AllocError>
     requires { AreApart terminals.old.keys }
     ensures numbers { IfOk result
-        (λ numbers. AreNumbered terminals.new.keys numbers.items ends.now) }
+        (λ numbers. EndsAreNumbered terminals.new.keys numbers.items ends.now) }
     ensures apart { OnOk result (AreApart terminals.new.keys) }
 {
     let mut numbers = Vec::new(alloc);

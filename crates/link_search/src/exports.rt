@@ -3,7 +3,7 @@ ghost use Rattle.std.specs.Prelude.{◌≡◌, [], ◌∷◌, length, IfOk};
 ghost use Rattle.std.specs.Option.{option_to_list};
 ghost use Rattle.link_search.specs.Ends.{ends_in};
 ghost use Rattle.link_search.specs.Exports.{if_any, passed_on, module_targets, targets_of, StaysWithin};
-ghost use Rattle.link_search.specs.Targets.{names_in};
+ghost use Rattle.link_search.specs.Targets.{target_names};
 
 use crate::graph::Ways;
 use crate::target::Target;
@@ -42,7 +42,7 @@ fn only(alloc: Global, module: u32, name: u32) -> Result<Vec<(u32, u32)>, AllocE
 
 // The name as each of these modules exports it.
 fn passed_on(alloc: Global, stars: &[u32], name: u32) -> Result<Vec<(u32, u32)>, AllocError>
-    ensures { IfOk result (λ names. names.items ≡ names_in (passed_on name stars.now)) }
+    ensures { IfOk result (λ names. names.items ≡ target_names (passed_on name stars.now)) }
 {
     let mut names = Vec::new(alloc);
     for module in stars {
@@ -71,7 +71,7 @@ impl ModuleExports {
         name: u32,
     ) -> Result<Vec<(u32, u32)>, AllocError>
         ensures { IfOk result (λ names. names.items
-            ≡ names_in (module_targets default_name self.now name)) }
+            ≡ target_names (module_targets default_name self.now name)) }
     {
         match self.names.get(&name) {
             Some(Some(Target::Name(module, other))) => only(alloc, *module, *other),
@@ -102,7 +102,7 @@ impl SetExports {
         name: u32,
     ) -> Result<Vec<(u32, u32)>, AllocError>
         ensures { IfOk result (λ names. names.items
-            ≡ names_in (targets_of self.now («module», name))) }
+            ≡ target_names (targets_of self.now («module», name))) }
     {
         if name as usize >= self.names {
             return Ok(Vec::new(alloc));
@@ -135,7 +135,7 @@ pub(crate) struct NameWays<'e> {
 }
 
 impl<'e> Ways for NameWays<'e> {
-    ghost leads = { λ w name. names_in (targets_of w.exports.now name) };
+    ghost leads = { λ w name. target_names (targets_of w.exports.now name) };
 
     ghost firsts = { λ w. length w.exports.now.modules.items };
 

@@ -4,7 +4,7 @@ ghost use Rattle.std.specs.Prelude.{◌≡◌, ◌<◌, ◌≤◌, ◌∷◌, []
 ghost use Rattle.reachability.specs.Rows.{row, lists, AreWithin};
 ghost use Rattle.reachability.specs.Marked.{is_marked};
 ghost use Rattle.link_search.specs.Steps.{LeadsToRing};
-ghost use Rattle.link_search.specs.Walked.{mark_of, is_new, is_ring, turns, entering, entered, any_turns, left};
+ghost use Rattle.link_search.specs.Walked.{mark_of, is_new, is_ring, turns, enter_tasks, number_entered, any_turns, number_left};
 ghost use Rattle.link_search.specs.Keeping.{Keeps, Turned, Finished};
 ghost use Rattle.link_search.specs.declared.rings.Mark.TheVariants.{New};
 ghost use Rattle.link_search.specs.declared.rings.Task.TheVariants.{Enter};
@@ -114,7 +114,7 @@ impl Walk {
     // The numbers are to be entered, the last one next.
     fn go_to_all(&mut self, numbers: &[u32]) -> Result<(), AllocError>
         ensures ok { OnOk result
-            (self.new ≡ record self.old { tasks = entering numbers.now self.old.tasks }) }
+            (self.new ≡ record self.old { tasks = enter_tasks numbers.now self.old.tasks }) }
     {
         for b in numbers {
             self.go_to(*b)?;
@@ -125,7 +125,7 @@ impl Walk {
     // Enters a number, whose row is given.
     fn enter(&mut self, a: u32, row: &[u32]) -> Result<(), AllocError>
         requires { a < length self.old.marks }
-        ensures ok { OnOk result (self.new ≡ entered self.old a row.now) }
+        ensures ok { OnOk result (self.new ≡ number_entered self.old a row.now) }
     {
         self.marks[a as usize] = Mark::Open;
         self.tasks.push(Task::Leave(a))?;
@@ -149,7 +149,7 @@ impl Walk {
     fn leave(&mut self, a: u32, row: &[u32])
         requires number { a < length self.old.marks }
         requires row { All (λ b. b < length self.old.marks) row.now }
-        ensures { self.new ≡ left self.old a row.now }
+        ensures { self.new ≡ number_left self.old a row.now }
     {
         self.marks[a as usize] = if self.any_turns(row) {
             Mark::Ring

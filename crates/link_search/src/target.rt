@@ -1,6 +1,6 @@
 //! Where imports and exported names lead.
 ghost use Rattle.std.specs.Prelude.{◌≡◌, IfOk};
-ghost use Rattle.link_search.specs.Targets.{names_in};
+ghost use Rattle.link_search.specs.Targets.{target_names};
 
 use crate::terminal::Terminal;
 use std::alloc::{AllocError, Global};
@@ -16,7 +16,7 @@ pub enum Target {
 
 // The names among targets, in order.
 pub(crate) fn names_in(alloc: Global, targets: &[Target]) -> Result<Vec<(u32, u32)>, AllocError>
-    ensures { IfOk result (λ names. names.items ≡ names_in targets.now) }
+    ensures { IfOk result (λ names. names.items ≡ target_names targets.now) }
 {
     let mut names = Vec::new(alloc);
     for target in targets {

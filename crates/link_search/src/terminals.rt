@@ -1,8 +1,8 @@
 //! Which terminals each number reaches.
 
 ghost use Rattle.std.specs.Prelude.{◌≡◌, ◌<◌, ◌≤◌, ◌∷◌, ◌++◌, [], ℕ, length, map, replicate, All, IfOk, OnOk, IfSome, IfNone};
-ghost use Rattle.reachability.specs.Rows.{row, lists, rows_of, AreWithin};
-ghost use Rattle.link_search.specs.Reached.{Tells, joined, absorbs, value_of, raised, raised_all, with_ends, backward_from};
+ghost use Rattle.reachability.specs.Rows.{row, lists, rows_from_pairs, AreWithin};
+ghost use Rattle.link_search.specs.Reached.{AnswerTells, joined, absorbs, known_of, spread_raised, raised_all, with_ends, backward_from};
 ghost use Rattle.link_search.specs.declared.terminals.Terminals.TheVariants.{Nowhere};
 
 use reachability::{row, rows_of};
@@ -81,7 +81,7 @@ impl Spreading {
     // What is known of a number.
     fn value(&self, a: u32) -> Terminals
         requires { a < length self.now.values }
-        ensures { result ≡ value_of self.now.values a }
+        ensures { result ≡ known_of self.now.values a }
     {
         self.values[a as usize]
     }
@@ -106,7 +106,7 @@ impl Spreading {
     // A number reaches these, too.
     fn raise(&mut self, a: u32, reached: Terminals) -> Result<(), AllocError>
         requires { a < length self.old.values }
-        ensures ok { OnOk result (self.new ≡ raised self.old a reached) }
+        ensures ok { OnOk result (self.new ≡ spread_raised self.old a reached) }
     {
         let before = self.values[a as usize];
         if !before.absorbs(reached) {
@@ -174,7 +174,7 @@ pub fn reached_terminals(
     requires ends { All (λ end. end.0 < length rows.now) ends.now }
     ensures length { IfOk result (λ found. length found.items ≡ length rows.now) }
     ensures tells { IfOk result
-        (λ found. (a : ℕ) → Tells (lists rows.now) ends.now (value_of found.items a) a) }
+        (λ found. (a : ℕ) → AnswerTells (lists rows.now) ends.now (known_of found.items a) a) }
 {
     let pairs = backward_pairs(alloc, rows)?;
     let back = rows_of(alloc, rows.len(), pairs.as_slice())?;

@@ -3,7 +3,7 @@ use Rattle.std.proofs.Common.{◌≡◌, inl, inr, ℕ, List, [], ◌∷◌, tru
 use Rattle.std.specs.Prelude.{option_map, option_and_then}
 use Rattle.reachability.specs.Rows.{Among}
 use Rattle.semantic_syntax.specs.Tables.{Name}
-use Rattle.link_model.specs.Leads.{End, pair, symbol, default_of, namespace_of, outside, is_terminal}
+use Rattle.link_model.specs.Leads.{LinkEnd, pair, symbol, default_of, namespace_of, outside, is_terminal}
 use Rattle.link_search.specs.Ends.{AreApart}
 use Rattle.link_search.specs.Targets.{is_end}
 use Rattle.link_search.specs.declared.target.Target.{Target}
@@ -22,24 +22,24 @@ bound_some f None y h = absurd cc
 bound_some f (Some x) y h = (x, refl, h)
 
 -- the texts of an outside terminal
-pub record IsOutside (texts : List Name) (k : ℕ) (name : Option ℕ) (e : End) : Type 0 where
+pub record IsOutside (texts : List Name) (k : ℕ) (name : Option ℕ) (e : LinkEnd) : Type 0 where
   pub source : Name
   pub source_there : slice_get texts k ≡ Some source
   pub asked : outside_of texts name source ≡ Some e
 
-pub is_outside : (texts : List Name) (k : ℕ) (name : Option ℕ) (e : End) → terminal_denoted texts (terminal.Outside k name) ≡ Some e → IsOutside texts k name e
+pub is_outside : (texts : List Name) (k : ℕ) (name : Option ℕ) (e : LinkEnd) → terminal_denoted texts (terminal.Outside k name) ≡ Some e → IsOutside texts k name e
 is_outside texts k name e h =
     let w : (x : Name) × (slice_get texts k ≡ Some x) × (outside_of texts name x ≡ Some e) = bound_some (outside_of texts name) (slice_get texts k) e h in
     record { source = w.0; source_there = w.1; asked = w.2 }
 
 -- the name of an outside terminal
-pub outside_is : (texts : List Name) (name : Option ℕ) (source : Name) (e : End) → outside_of texts name source ≡ Some e → (asked : Option Name) × (outside source asked ≡ e)
+pub outside_is : (texts : List Name) (name : Option ℕ) (source : Name) (e : LinkEnd) → outside_of texts name source ≡ Some e → (asked : Option Name) × (outside source asked ≡ e)
 outside_is texts None source e h = (None, some_same (outside source None) e h)
 outside_is texts (Some l) source e h =
     let w : (x : Name) × (slice_get texts l ≡ Some x) × (outside source (Some x) ≡ e) = mapped_some (λ x. outside source (Some x)) (slice_get texts l) e h in (Some w.0, w.2)
 
 -- a terminal stands for a terminal
-pub terminal_is : (texts : List Name) (t : Terminal) (e : End) → terminal_denoted texts t ≡ Some e → is_terminal e ≡ true
+pub terminal_is : (texts : List Name) (t : Terminal) (e : LinkEnd) → terminal_denoted texts t ≡ Some e → is_terminal e ≡ true
 terminal_is texts (terminal.Symbol m s) e h = ap is_terminal (sym (some_same (symbol m s) e h))
 terminal_is texts (terminal.Default m) e h = ap is_terminal (sym (some_same (default_of m) e h))
 terminal_is texts (terminal.Namespace m) e h = ap is_terminal (sym (some_same (namespace_of m) e h))
@@ -49,7 +49,7 @@ terminal_is texts (terminal.Outside k name) e h =
     ap is_terminal (sym v.1)
 
 -- and a name for a name
-pub same_kind : (texts : List Name) (t : Target) (e : End) → denoted texts t ≡ Some e → is_terminal e ≡ is_end t
+pub same_kind : (texts : List Name) (t : Target) (e : LinkEnd) → denoted texts t ≡ Some e → is_terminal e ≡ is_end t
 same_kind texts (target.Name m k) e h =
     let w : (x : Name) × (slice_get texts k ≡ Some x) × (pair m x ≡ e) = mapped_some (λ x. pair m x) (slice_get texts k) e h in ap is_terminal (sym w.2)
 same_kind texts (target.End t) e h = terminal_is texts t e h
@@ -57,7 +57,7 @@ same_kind texts (target.End t) e h = terminal_is texts t e h
 -- ---- terminals that stand for one
 
 module _ (texts : List Name) (apart : AreApart texts) where
-  asked_same : (a b : Option ℕ) (x y : Name) (e : End) → outside_of texts a x ≡ Some e → outside_of texts b y ≡ Some e → (x ≡ y) × (a ≡ b)
+  asked_same : (a b : Option ℕ) (x y : Name) (e : LinkEnd) → outside_of texts a x ≡ Some e → outside_of texts b y ≡ Some e → (x ≡ y) × (a ≡ b)
   asked_same None None x y e h k = let f : outside x None ≡ outside y None = some_same (outside x None) e h ∙ sym (some_same (outside y None) e k) in (source_same x y None None f, refl)
     where
       source_same : (x y : Name) (a b : Option Name) → outside x a ≡ outside y b → x ≡ y
@@ -84,23 +84,23 @@ module _ (texts : List Name) (apart : AreApart texts) where
       both : (x y a b : Name) → outside x (Some a) ≡ outside y (Some b) → (x ≡ y) × (a ≡ b)
       both x y a b f = (cc, (let g : Some a ≡ Some b = cc in some_same a b g))
 
-  abbrev stands : Terminal → End → Type 0
+  abbrev stands : Terminal → LinkEnd → Type 0
   stands t e = terminal_denoted texts t ≡ Some e
 
-  symbols_same : (m s n r : ℕ) (e : End) → Some (symbol m s) ≡ Some e → Some (symbol n r) ≡ Some e → terminal.Symbol m s ≡ terminal.Symbol n r
+  symbols_same : (m s n r : ℕ) (e : LinkEnd) → Some (symbol m s) ≡ Some e → Some (symbol n r) ≡ Some e → terminal.Symbol m s ≡ terminal.Symbol n r
   symbols_same m s n r e h k = go m s n r (some_same (symbol m s) e h ∙ sym (some_same (symbol n r) e k))
     where
       go : (m s n r : ℕ) → symbol m s ≡ symbol n r → terminal.Symbol m s ≡ terminal.Symbol n r
       go m s n r f = cc
 
   -- an outside terminal stands for none of the others
-  not_outside : (k : ℕ) (name : Option ℕ) (e f : End) → stands (terminal.Outside k name) e → f ≡ e → ((x : Name) (asked : Option Name) → outside x asked ≡ f → ⊥) → ⊥
+  not_outside : (k : ℕ) (name : Option ℕ) (e f : LinkEnd) → stands (terminal.Outside k name) e → f ≡ e → ((x : Name) (asked : Option Name) → outside x asked ≡ f → ⊥) → ⊥
   not_outside k name e f h same never =
       let w : IsOutside texts k name e = is_outside texts k name e h in
       let v : (asked : Option Name) × (outside w.source asked ≡ e) = outside_is texts name w.source e w.asked in
       never w.source v.0 (v.1 ∙ sym same)
 
-  one_terminal : (t u : Terminal) (e : End) → stands t e → stands u e → t ≡ u
+  one_terminal : (t u : Terminal) (e : LinkEnd) → stands t e → stands u e → t ≡ u
   one_terminal (terminal.Symbol m s) (terminal.Symbol n r) e h k = symbols_same m s n r e h k
   one_terminal (terminal.Symbol m s) (terminal.Default n) e h k = absurd (let f : Some (symbol m s) ≡ Some (default_of n) = h ∙ sym k in let g : symbol m s ≡ default_of n = some_same (symbol m s) (default_of n) f in cc)
   one_terminal (terminal.Symbol m s) (terminal.Namespace n) e h k = absurd (let f : Some (symbol m s) ≡ Some (namespace_of n) = h ∙ sym k in let g : symbol m s ≡ namespace_of n = some_same (symbol m s) (namespace_of n) f in cc)
@@ -124,21 +124,21 @@ module _ (texts : List Name) (apart : AreApart texts) where
       λ i. terminal.Outside (number i) (same.1 i)
 
   -- terminals that stand for one are one
-  pub one_end : (t u : Target) (e : End) → is_end t ≡ true → is_end u ≡ true → denoted texts t ≡ Some e → denoted texts u ≡ Some e → t ≡ u
+  pub one_end : (t u : Target) (e : LinkEnd) → is_end t ≡ true → is_end u ≡ true → denoted texts t ≡ Some e → denoted texts u ≡ Some e → t ≡ u
   one_end (target.Name m k) u e a b h l = absurd cc
   one_end (target.End t) (target.Name m k) e a b h l = absurd cc
   one_end (target.End t) (target.End u) e a b h l = ap (λ x. target.End x) (one_terminal t u e h l)
 
 -- ---- lists
 
-pub member_end : (texts : List Name) (ts : List Target) (es : List End) → AreDenoted texts ts es → (t : Target) → Among t ts → (e : End) × (denoted texts t ≡ Some e) × Among e es
+pub member_end : (texts : List Name) (ts : List Target) (es : List LinkEnd) → AreDenoted texts ts es → (t : Target) → Among t ts → (e : LinkEnd) × (denoted texts t ≡ Some e) × Among e es
 member_end texts [] es h t i = absurd i
 member_end texts (u ∷ ts) [] h t i = absurd h
 member_end texts (u ∷ ts) (e ∷ es) h t (inl same) = (e, ap (denoted texts) (sym same) ∙ h.0, inl refl)
 member_end texts (u ∷ ts) (e ∷ es) h t (inr i) =
-    let w : (f : End) × (denoted texts t ≡ Some f) × Among f es = member_end texts ts es h.1 t i in (w.0, w.1, inr w.2)
+    let w : (f : LinkEnd) × (denoted texts t ≡ Some f) × Among f es = member_end texts ts es h.1 t i in (w.0, w.1, inr w.2)
 
-pub member_target : (texts : List Name) (ts : List Target) (es : List End) → AreDenoted texts ts es → (e : End) → Among e es → (t : Target) × (denoted texts t ≡ Some e) × Among t ts
+pub member_target : (texts : List Name) (ts : List Target) (es : List LinkEnd) → AreDenoted texts ts es → (e : LinkEnd) → Among e es → (t : Target) × (denoted texts t ≡ Some e) × Among t ts
 member_target texts ts [] h e i = absurd i
 member_target texts [] (f ∷ es) h e i = absurd h
 member_target texts (t ∷ ts) (f ∷ es) h e (inl same) = (t, h.0 ∙ ap (λ g. Some g) same, inl refl)

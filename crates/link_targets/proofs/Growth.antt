@@ -6,7 +6,7 @@ use Rattle.std.specs.Str.{bytes_eq}
 use Rattle.std.proofs.lemmas.Slice.Eq.{bytes_eq-Decides}
 use Rattle.semantic_syntax.specs.Tables.{Name}
 use Rattle.tree_json.specs.Written.{and_text}
-use Rattle.link_model.specs.Leads.{End, pair, outside}
+use Rattle.link_model.specs.Leads.{LinkEnd, pair, outside}
 use Rattle.link_search.specs.Ends.{AreApart}
 use Rattle.link_search.specs.declared.target.Target.{Target}
 use Rattle.link_search.specs.declared.target.Target.TheVariants as target
@@ -69,13 +69,13 @@ grows_on a b c g h = record { extends = λ i z e. h.extends i z (g.extends i z e
 -- ---- what is denoted stays so
 
 module _ (old new : List Name) (grows : Grows old new) where
-  outside_stays : (name : Option ℕ) (source : Name) (e : End) → outside_of old name source ≡ Some e → outside_of new name source ≡ Some e
+  outside_stays : (name : Option ℕ) (source : Name) (e : LinkEnd) → outside_of old name source ≡ Some e → outside_of new name source ≡ Some e
   outside_stays None source e h = h
   outside_stays (Some k) source e h =
       let w : (x : Name) × (slice_get old k ≡ Some x) × (outside source (Some x) ≡ e) = mapped_some (λ x. outside source (Some x)) (slice_get old k) e h in
       ap (option_map (λ x. outside source (Some x))) (grows.extends k w.0 w.1) ∙ ap (λ x. Some x) w.2
 
-  terminal_stays : (t : Terminal) (e : End) → terminal_denoted old t ≡ Some e → terminal_denoted new t ≡ Some e
+  terminal_stays : (t : Terminal) (e : LinkEnd) → terminal_denoted old t ≡ Some e → terminal_denoted new t ≡ Some e
   terminal_stays (terminal.Symbol m s) e h = h
   terminal_stays (terminal.Default m) e h = h
   terminal_stays (terminal.Namespace m) e h = h
@@ -83,13 +83,13 @@ module _ (old new : List Name) (grows : Grows old new) where
       let w : IsOutside old k name e = is_outside old k name e h in
       ap (option_and_then (outside_of new name)) (grows.extends k w.source w.source_there) ∙ outside_stays name w.source e w.asked
 
-  pub denoted_stays : (t : Target) (e : End) → denoted old t ≡ Some e → denoted new t ≡ Some e
+  pub denoted_stays : (t : Target) (e : LinkEnd) → denoted old t ≡ Some e → denoted new t ≡ Some e
   denoted_stays (target.Name m k) e h =
       let w : (x : Name) × (slice_get old k ≡ Some x) × (pair m x ≡ e) = mapped_some (λ x. pair m x) (slice_get old k) e h in
       ap (option_map (λ x. pair m x)) (grows.extends k w.0 w.1) ∙ ap (λ x. Some x) w.2
   denoted_stays (target.End t) e h = terminal_stays t e h
 
-  pub all_stay : (ts : List Target) (es : List End) → AreDenoted old ts es → AreDenoted new ts es
+  pub all_stay : (ts : List Target) (es : List LinkEnd) → AreDenoted old ts es → AreDenoted new ts es
   all_stay [] [] h = tt
   all_stay [] (e ∷ es) h = absurd h
   all_stay (t ∷ ts) [] h = absurd h

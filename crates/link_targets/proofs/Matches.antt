@@ -9,9 +9,9 @@ use Rattle.std.proofs.lemmas.Option.{slice_get_within}
 use Rattle.std.proofs.lemmas.Slice.Eq.{bytes_eq-Decides}
 use Rattle.indexmap.specs.IndexMap.{get}
 use Rattle.semantic_syntax.specs.Tables.{Name}
-use Rattle.link_model.specs.Exports.{Export, export_of, exports, stars}
+use Rattle.link_model.specs.Exports.{Export, export_named, exports, stars}
 use Rattle.link_model.specs.Imports.{Import, imports}
-use Rattle.link_model.specs.Leads.{End, pair, symbol, default_of, namespace_of, outside, is_terminal, Ties, ties_of, exported_ends, starred, name_ends, ends_in_module, leads}
+use Rattle.link_model.specs.Leads.{LinkEnd, pair, symbol, default_of, namespace_of, outside, is_terminal, Ties, ties_of, exported_ends, starred, name_ends, ends_in_module, leads}
 use Rattle.link_model.specs.Module.{Analysed, module_names}
 use Rattle.link_search.specs.Ends.{AreApart}
 use Rattle.link_search.specs.Exports.{if_any, passed_on, exported_or_passed, module_targets, targets_at, targets_of}
@@ -46,11 +46,11 @@ module _ (names texts : List Name) (apart : AreApart texts) where
         let number : k ≡ x.0 = apart k x.0 name there (here.name ∙ ap (λ y. Some y) same) in
         absurd (let yes : nat_eq k x.0 ≡ true = eq-eqb k x.0 number in let both : true ≡ false = sym yes ∙ h in cc)
 
-    pub matches : (xs : List (ℕ × Option Target)) (es : List Export) → AreExports names texts m t is xs es → (k : ℕ) (name : Name) → slice_get texts k ≡ Some name → Match names texts m t is (lookup (nat_eq k) xs) (export_of es name)
+    pub matches : (xs : List (ℕ × Option Target)) (es : List Export) → AreExports names texts m t is xs es → (k : ℕ) (name : Name) → slice_get texts k ≡ Some name → Match names texts m t is (lookup (nat_eq k) xs) (export_named es name)
     matches [] [] h k name there = tt
     matches [] (e ∷ es) h k name there = absurd h
     matches (x ∷ xs) [] h k name there = absurd h
-    matches (x ∷ xs) (e ∷ es) h k name there = match_one (nat_eq k x.0) (bytes_eq e.name name) k name x e (lookup (nat_eq k) xs) (export_of es name) refl refl there h.0 (matches xs es h.1 k name there)
+    matches (x ∷ xs) (e ∷ es) h k name there = match_one (nat_eq k x.0) (bytes_eq e.name name) k name x e (lookup (nat_eq k) xs) (export_named es name) refl refl there h.0 (matches xs es h.1 k name there)
 
   -- what star exports pass on
   passed : (k : ℕ) (name : Name) → slice_get texts k ≡ Some name → (ns : List ℕ) → AreDenoted texts (passed_on k ns) (map (λ n. pair n name) ns)
@@ -80,10 +80,10 @@ module _ (names texts : List Name) (apart : AreApart texts) where
     by_match m x e k name there starred_by (Some o) None h = absurd h
     by_match m x e k name there starred_by (Some o) (Some other) h = h
 
-    in_module : (m : ℕ) (x : Analysed) (e : ModuleExports) → IsModuleExports names texts m x e → (k : ℕ) (name : Name) → slice_get texts k ≡ Some name → AreDenoted texts (module_targets default_name e k) (name_ends names m x name (export_of (exports x) name))
+    in_module : (m : ℕ) (x : Analysed) (e : ModuleExports) → IsModuleExports names texts m x e → (k : ℕ) (name : Name) → slice_get texts k ≡ Some name → AreDenoted texts (module_targets default_name e k) (name_ends names m x name (export_named (exports x) name))
     in_module m x e is k name there =
-        by_match m x e k name there is.stars (get nat_eq e.names k) (export_of (exports x) name)
-        (subst (λ o. Match names texts m (ties_of x.analysis) (imports x) o (export_of (exports x) name)) (sym (is.firsts k)) (matches m (ties_of x.analysis) (imports x) is.targets (exports x) is.stand k name there))
+        by_match m x e k name there is.stars (get nat_eq e.names k) (export_named (exports x) name)
+        (subst (λ o. Match names texts m (ties_of x.analysis) (imports x) o (export_named (exports x) name)) (sym (is.firsts k)) (matches m (ties_of x.analysis) (imports x) is.targets (exports x) is.stand k name there))
 
     -- modules at a place
     abbrev Both : ℕ → Option Analysed → Option ModuleExports → Type 0
@@ -102,7 +102,7 @@ module _ (names texts : List Name) (apart : AreApart texts) where
     at_option s same m k name there None None h = tt
     at_option s same m k name there None (Some e) h = absurd h
     at_option s same m k name there (Some x) None h = absurd h
-    at_option s same m k name there (Some x) (Some e) h = subst (λ d. AreDenoted texts (module_targets d e k) (name_ends names m x name (export_of (exports x) name))) (sym same) (in_module m x e h k name there)
+    at_option s same m k name there (Some x) (Some e) h = subst (λ d. AreDenoted texts (module_targets d e k) (name_ends names m x name (export_named (exports x) name))) (sym same) (in_module m x e h k name there)
 
     module _ (s : SetExports) (xs : List Analysed) (named_by : names ≡ module_names xs) (modules : AreModuleExports names texts 0 xs s.modules.items) (many : s.names ≡ length texts) (same : s.default_name ≡ default_name) where
       follow_name : (m k : ℕ) (name : Name) → slice_get texts k ≡ Some name → AreDenoted texts (targets_of s (m, k)) (leads xs (pair m name))
@@ -113,7 +113,7 @@ module _ (names texts : List Name) (apart : AreApart texts) where
           subst (λ b. AreDenoted texts (cond b (targets_at s k (slice_get s.modules.items m)) []) (leads xs (pair m name))) (sym below)
           (subst (λ ns. AreDenoted texts (targets_at s k (slice_get s.modules.items m)) (ends_in_module ns m name (slice_get xs m))) named_by here)
 
-      leads_nowhere : (e : End) → is_terminal e ≡ true → AreDenoted texts [] (leads xs e)
+      leads_nowhere : (e : LinkEnd) → is_terminal e ≡ true → AreDenoted texts [] (leads xs e)
       leads_nowhere (pair m name) h = absurd cc
       leads_nowhere (symbol m r) h = tt
       leads_nowhere (default_of m) h = tt

@@ -1,7 +1,7 @@
 -- Targets that lead where their ends do, and the outcomes of what is found.
 use Rattle.std.specs.Prelude.{◌≡◌, List, Some}
 use Rattle.semantic_syntax.specs.Tables.{Name}
-use Rattle.link_model.specs.Leads.{End, leads}
+use Rattle.link_model.specs.Leads.{LinkEnd, leads}
 use Rattle.link_model.specs.Module.{Analysed}
 use Rattle.link_model.specs.declared.outcome.LinkOutcome.{LinkOutcome}
 use Rattle.link_model.specs.declared.outcome.LinkOutcome.TheVariants as outcome
@@ -16,7 +16,7 @@ use Rattle.link_targets.specs.Denoted.{denoted, AreDenoted}
 
 -- each target leads to what its end leads to
 abbrev pub Follow : List Name → SetExports → List Analysed → Type 0
-Follow texts s ms = (t : Target) (e : End) → denoted texts t ≡ Some e → AreDenoted texts (leads_of s t) (leads ms e)
+Follow texts s ms = (t : Target) (e : LinkEnd) → denoted texts t ≡ Some e → AreDenoted texts (leads_of s t) (leads ms e)
 
 abbrev pub terminal_outcome : Terminal → LinkOutcome
 terminal_outcome (terminal.Symbol m s) = outcome.Symbol m s

@@ -2,12 +2,12 @@
 
 ghost use Rattle.std.specs.Prelude.{◌≡◌, List, Some};
 ghost use Rattle.semantic_syntax.specs.Tables.{Name};
-ghost use Rattle.link_model.specs.Leads.{End};
+ghost use Rattle.link_model.specs.Leads.{LinkEnd};
 ghost use Rattle.link_model.specs.Module.{Analysed};
 ghost use Rattle.link_model.specs.Outcome.{IsOutcome};
 ghost use Rattle.link_search.specs.Ends.{AreApart};
 ghost use Rattle.link_search.specs.Exports.{leads_of, StaysWithin};
-ghost use Rattle.link_search.specs.Targets.{ComesTo};
+ghost use Rattle.link_search.specs.Targets.{TargetComesTo};
 ghost use Rattle.link_search.specs.declared.answer.Found.{Found};
 ghost use Rattle.link_search.specs.declared.exports.SetExports.{SetExports};
 ghost use Rattle.link_search.specs.declared.target.Target.{Target};
@@ -20,13 +20,15 @@ ghost use Rattle.tree_json.specs.Written.{and_text};
 pub fn outcomes_follow()
     ensures { (texts : List Name) (s : SetExports) (ms : List Analysed) → AreApart texts
         → Follow texts s ms
-        → (t : Target) (e : End) (f : Found) → denoted texts t ≡ Some e → ComesTo (leads_of s) t f
+        → (t : Target) (e : LinkEnd) (f : Found) → denoted texts t ≡ Some e
+        → TargetComesTo (leads_of s) t f
         → IsOutcome ms e (outcome_of f) }
 {}
 
 /// A target stands for one end alone, also once more texts have numbers.
 pub fn targets_keep_their_ends()
-    ensures { (old new : List Name) (t : Target) (e : End) → Grows old new → denoted old t ≡ Some e
+    ensures { (old new : List Name) (t : Target) (e : LinkEnd) → Grows old new
+        → denoted old t ≡ Some e
         → denoted new t ≡ Some e }
 {}
 

@@ -22,16 +22,16 @@ use Rattle.rename_model.specs.Same.{first_difference}
 use Rattle.rename_model.specs.WithName.{is_identifier}
 use Rattle.rename_model.proofs.Differences.{complete}
 use Rattle.mangle_model.specs.Alike.{Alike}
-use Rattle.mangle_model.specs.Assignment.{Assignment, listed, name_or, first_name, is_new, nothing_new}
+use Rattle.mangle_model.specs.Assignment.{Assignment, assignment_of, name_or, first_name, has_new_name, nothing_new}
 use Rattle.mangle_model.specs.GoodNames.{is_free_name, is_kept_name, is_good_name}
 use Rattle.mangle_model.specs.MayMangle.{Options}
-use Rattle.mangle_model.specs.Mangling.{may_change, all_pass, all_identifiers, is_no_node, passes, is_accepted}
+use Rattle.mangle_model.specs.Mangling.{may_change, all_pass, all_identifiers, is_no_node, may_take, is_accepted}
 use Rattle.mangle_model.specs.OneNameEach.{is_fixed_name, symbol_names, name_pairs, each_named, one_name_each}
 use Rattle.mangle_model.specs.OneToOne.{SymbolsAgree, BoundAgree, BindingsAgree, FreeAgree, ComesOf}
 use Rattle.mangle_model.specs.Renamed.{new_name, given, renamed_by}
 use Rattle.mangle_model.specs.Tests.{are_renamed}
 use Rattle.mangle_model.specs.WithNames.{is_given}
-use Rattle.mangle_model.specs.Written.{written}
+use Rattle.mangle_model.specs.Written.{size_written}
 use Rattle.mangle_model.proofs.Composed.{none_alike}
 use Rattle.mangle_model.proofs.Decided.{renamed_decides}
 use Rattle.mangle_model.proofs.EachNode.{texts_agree, all_named}
@@ -59,7 +59,7 @@ module _ (o : Options) (p : Tree) (faultless : first_fault p ≡ None) (numbered
   list = each_named o p
 
   abbrev names : Assignment
-  names = listed list
+  names = assignment_of list
 
   abbrev f : Name → Name
   f = mapped pairs
@@ -126,7 +126,7 @@ module _ (o : Options) (p : Tree) (faultless : first_fault p ≡ None) (numbered
   -- ---- the tests
 
   module _ (test : ℕ → Name → Bool) where
-    pass_from : (s : ℕ) (ns : List (Option Name)) → ((i : ℕ) (n : Name) → listed ns i ≡ Some n → test (s + i) n ≡ true) → all_pass test s ns ≡ true
+    pass_from : (s : ℕ) (ns : List (Option Name)) → ((i : ℕ) (n : Name) → assignment_of ns i ≡ Some n → test (s + i) n ≡ true) → all_pass test s ns ≡ true
     pass_from s [] h = refl
     pass_from s (None ∷ ns) h = pass_from (s + 1) ns (λ i n e. subst (λ k. test k n ≡ true) (omega arith) (h (suc i) n e))
     pass_from s (Some m ∷ ns) h =
@@ -140,18 +140,18 @@ module _ (o : Options) (p : Tree) (faultless : first_fault p ≡ None) (numbered
       let (kept, standing) = neither (is_kept_name may name 0 a.tables.symbols) _ rest in
       rw (u.fits, u.word, free, kept) refl
 
-  each_passes : (i : ℕ) (n : Name) → names i ≡ Some n → passes may a (0 + i) n ≡ true
+  each_passes : (i : ℕ) (n : Name) → names i ≡ Some n → may_take may a (0 + i) n ≡ true
   each_passes i n e =
       let g : Gets o p i n = gets o p i n e in
-      subst (λ k. passes may a k n ≡ true) (omega arith) (λ j. g.may_be j && good n g.unused j)
+      subst (λ k. may_take may a k n ≡ true) (omega arith) (λ j. g.may_be j && good n g.unused j)
 
-  module _ (new : List (Option Name)) (alike : Alike (listed new) p (renamed_by (listed new) p)) where
+  module _ (new : List (Option Name)) (alike : Alike (assignment_of new) p (renamed_by (assignment_of new) p)) where
     abbrev q : Tree
-    q = renamed_by (listed new) p
+    q = renamed_by (assignment_of new) p
 
-    accepted_by : all_pass (passes may a) 0 new ≡ true → all_identifiers (is_given (given (listed new) a)) p.root.children ≡ true → nat_le (written q) (written p) ≡ true → is_accepted o p new ≡ true
+    accepted_by : all_pass (may_take may a) 0 new ≡ true → all_identifiers (is_given (given (assignment_of new) a)) p.root.children ≡ true → nat_le (size_written q) (size_written p) ≡ true → is_accepted o p new ≡ true
     accepted_by pass identifiers shorter =
-        let tables : are_renamed (listed new) a.tables (analysis_of q).tables ≡ true = (renamed_decides (listed new) a.tables (analysis_of q).tables).1 alike.tables in
+        let tables : are_renamed (assignment_of new) a.tables (analysis_of q).tables ≡ true = (renamed_decides (assignment_of new) a.tables (analysis_of q).tables).1 alike.tables in
         let nodes : is_no_node (first_difference a (analysis_of q) 0 (node_count p.root)) ≡ true = ap is_no_node (complete p q alike.nodes) in
         λ i. pass i && (identifiers i && (tables i && (nodes i && shorter i)))
 
@@ -162,7 +162,7 @@ module _ (o : Options) (p : Tree) (faultless : first_fault p ≡ None) (numbered
   none_new (Some s) = refl
 
   none_given : (id : ℕ) → is_given (given nothing_new a) id ≡ false
-  none_given id = λ i. is_new (first_name (none_new (symbol_at a id) i) (none_new (tied_at a id) i))
+  none_given id = λ i. has_new_name (first_name (none_new (symbol_at a id) i) (none_new (tied_at a id) i))
 
   none_identified : (g : Forest) → all_identifiers (is_given (given nothing_new a)) g ≡ true
   none_identified nothing = refl
@@ -172,16 +172,16 @@ module _ (o : Options) (p : Tree) (faultless : first_fault p ≡ None) (numbered
   none_accepted : is_accepted o p [] ≡ true
   none_accepted =
       accepted_by [] (subst (λ q. Alike nothing_new p q) (sym (none_is_itself p)) (none_alike p)) refl (none_identified p.root.children)
-      ((λ i. nat_le (written (none_is_itself p i)) (written p)) ∙ le-leb (written p) (written p) (omega arith))
+      ((λ i. nat_le (size_written (none_is_itself p i)) (size_written p)) ∙ le-leb (size_written p) (size_written p) (omega arith))
 
   -- ---- all together
 
-  pub all_may_be_given : all_pass (passes may a) 0 list ≡ true
-  all_may_be_given = pass_from (passes may a) 0 list each_passes
+  pub all_may_be_given : all_pass (may_take may a) 0 list ≡ true
+  all_may_be_given = pass_from (may_take may a) 0 list each_passes
 
   pub always_accepted : is_accepted o p (one_name_each o p) ≡ true
-  always_accepted = go (nat_le (written (renamed_by names p)) (written p)) refl
+  always_accepted = go (nat_le (size_written (renamed_by names p)) (size_written p)) refl
     where
-      go : (b : Bool) → nat_le (written (renamed_by names p)) (written p) ≡ b → is_accepted o p (cond b list []) ≡ true
+      go : (b : Bool) → nat_le (size_written (renamed_by names p)) (size_written p) ≡ b → is_accepted o p (cond b list []) ≡ true
       go true e = accepted_by list (one_to_one_alike f names p faultless comes) all_may_be_given (all_named o p faultless numbered) e
       go false e = none_accepted

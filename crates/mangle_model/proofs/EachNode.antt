@@ -12,7 +12,7 @@ use Rattle.semantic_syntax.specs.Tables.{Name, Symbol}
 use Rattle.semantic_tree.specs.Faults.{first_fault}
 use Rattle.semantic_tree.specs.Forest.{Forest, nothing, tree}
 use Rattle.semantic_tree.specs.Place.{child_place, placed_below, root_place, all_placed}
-use Rattle.semantic_tree.specs.Renamed.{is_named, setting_below, renamed_text}
+use Rattle.semantic_tree.specs.Renamed.{is_program_name, setting_below, renamed_text}
 use Rattle.semantic_tree.specs.Tree.{Tree, IsNumbered}
 use Rattle.semantic_tree.specs.Views.{is}
 use Rattle.semantic_tree.specs.declared.node.Node.{Node}
@@ -36,11 +36,11 @@ use Rattle.rename_model.specs.WithName.{is_identifier}
 use Rattle.rename_model.proofs.Entered.{Enters, enters}
 use Rattle.rename_model.proofs.NameShape.{identifier_cases}
 use Rattle.rename_model.proofs.NamedNodes.{Tells, declares, is_tied, tells, symbol_named, tie_named}
-use Rattle.mangle_model.specs.Assignment.{Assignment, listed, first_name, name_or, is_new}
+use Rattle.mangle_model.specs.Assignment.{Assignment, assignment_of, first_name, name_or, has_new_name}
 use Rattle.mangle_model.specs.GoodNames.{is_free_name, is_kept_name}
 use Rattle.mangle_model.specs.MayMangle.{Options, fixes_symbol, is_element_name, is_parameter_property}
 use Rattle.mangle_model.specs.Mangling.{may_change, all_identifiers}
-use Rattle.mangle_model.specs.OneNameEach.{is_such, bears_such, fixed_below, is_fixed_name, symbol_names, name_pairs, names_by}
+use Rattle.mangle_model.specs.OneNameEach.{is_such, bears_such, fixed_below, is_fixed_name, symbol_names, name_pairs, names_by_name}
 use Rattle.mangle_model.specs.OneToOne.{AgreeIn}
 use Rattle.mangle_model.specs.Renamed.{new_name, given}
 use Rattle.mangle_model.specs.WithNames.{is_given}
@@ -76,8 +76,8 @@ not_some : (o : Option Name) → ((n : Name) → o ≡ Some n → ⊥) → o ≡
 not_some None h = refl
 not_some (Some n) h = absurd (h n refl)
 
-identifier_named : (setting : Setting) (r : Role) (k : AstType) → is_identifier k ≡ true → is_named setting r k ≡ true
-identifier_named setting r k e = identifier_cases (λ j. is_named setting r j ≡ true) refl refl k e
+identifier_named : (setting : Setting) (r : Role) (k : AstType) → is_identifier k ≡ true → is_program_name setting r k ≡ true
+identifier_named setting r k e = identifier_cases (λ j. is_program_name setting r j ≡ true) refl refl k e
 
 module _ (o : Options) (p : Tree) (faultless : first_fault p ≡ None) (numbered : IsNumbered p.root) where
   abbrev a : Analysis
@@ -93,7 +93,7 @@ module _ (o : Options) (p : Tree) (faultless : first_fault p ≡ None) (numbered
   pairs = name_pairs may a p
 
   abbrev names : Assignment
-  names = listed (names_by pairs a.tables.symbols)
+  names = assignment_of (names_by_name pairs a.tables.symbols)
 
   abbrev bears : ℕ → Bool
   bears = bears_such may a
@@ -208,16 +208,16 @@ module _ (o : Options) (p : Tree) (faultless : first_fault p ≡ None) (numbered
         no_own : (n : Name) → own ≡ None → IsOwn n → ⊥
         no_own n none w = let e : ◌≡◌ {A = Option Name} None (Some n) = sym none ∙ w.is_own in cc
 
-    agrees : (setting : Setting) (r : Role) → ((is_named setting r x.kind && not (bears x.node_id)) ≡ true → Among x.text fixed) → name_or (given names a x.node_id) x.text ≡ renamed_text (mapped pairs) setting r x.kind x.text
-    agrees setting r h = go (is_named setting r x.kind) refl (bears x.node_id) refl h
+    agrees : (setting : Setting) (r : Role) → ((is_program_name setting r x.kind && not (bears x.node_id)) ≡ true → Among x.text fixed) → name_or (given names a x.node_id) x.text ≡ renamed_text (mapped pairs) setting r x.kind x.text
+    agrees setting r h = go (is_program_name setting r x.kind) refl (bears x.node_id) refl h
       where
         by : IsSettled → name_or (given names a x.node_id) x.text ≡ mapped pairs x.text
         by w = ap (λ n. name_or n x.text) w.given_own ∙ sym (mapped_is pairs (pairs_apart may a p) x.text w.not_new)
 
-        no_name : is_named setting r x.kind ≡ false → (n : Name) → IsOwn n → ⊥
-        no_name e n w = clash (is_named setting r x.kind) (identifier_named setting r x.kind w.is_name) e
+        no_name : is_program_name setting r x.kind ≡ false → (n : Name) → IsOwn n → ⊥
+        no_name e n w = clash (is_program_name setting r x.kind) (identifier_named setting r x.kind w.is_name) e
 
-        go : (b : Bool) → is_named setting r x.kind ≡ b → (c : Bool) → bears x.node_id ≡ c → ((b && not c) ≡ true → Among x.text fixed) → name_or (given names a x.node_id) x.text ≡ (if b then mapped pairs x.text else x.text)
+        go : (b : Bool) → is_program_name setting r x.kind ≡ b → (c : Bool) → bears x.node_id ≡ c → ((b && not c) ≡ true → Among x.text fixed) → name_or (given names a x.node_id) x.text ≡ (if b then mapped pairs x.text else x.text)
         go true e true f k = by (where_borne f)
         go true e false f k = by (where_fixed (k refl))
         go false e c f k =
@@ -233,7 +233,7 @@ module _ (o : Options) (p : Tree) (faultless : first_fault p ≡ None) (numbered
     named_there : (not (is_given (given names a) x.node_id) || is_identifier x.kind) ≡ true
     named_there = go (given names a x.node_id) refl
       where
-        go : (u : Option Name) → given names a x.node_id ≡ u → (not (is_new u) || is_identifier x.kind) ≡ true
+        go : (u : Option Name) → given names a x.node_id ≡ u → (not (has_new_name u) || is_identifier x.kind) ≡ true
         go None e = refl
         go (Some n) e = given_name n e
 
@@ -256,7 +256,7 @@ module _ (o : Options) (p : Tree) (faultless : first_fault p ≡ None) (numbered
   agree_in setting place k (tree r k2 span text marks below id after) h g =
       let x : Node = record { kind = k2; span = span; text = text; marks = marks; children = below; node_id = id } in
       let here : placed.Place = child_place place k r in
-      let own : List Name = cond (is_named setting r k2 && not (bears id)) (text ∷ []) [] in
+      let own : List Name = cond (is_program_name setting r k2 && not (bears id)) (text ∷ []) [] in
       let inner : List Name = fixed_below bears (setting_below setting r k2) below in
       let others : List Name = fixed_below bears setting after in (
         agrees here x (h here x (inl refl)) setting r (λ e. g text (among_left text own (inner ++ others) (subst (λ b. Among text (cond b (text ∷ []) [])) (sym e) (inl refl)))),

@@ -15,11 +15,11 @@ use Rattle.semantic_model.proofs.once.ListedUnder.{name_tells}
 use Rattle.program_laws.specs.SymbolNames.{IsNamed}
 use Rattle.rename_model.specs.Renamed.{bears_name}
 use Rattle.rename_model.proofs.NamedNodes.{some_is}
-use Rattle.mangle_model.specs.Assignment.{listed}
+use Rattle.mangle_model.specs.Assignment.{assignment_of}
 use Rattle.mangle_model.specs.GoodNames.{is_free_name, is_kept_name}
 use Rattle.mangle_model.specs.MayMangle.{Options, is_open_scope, is_global, is_of_wrapper, is_kept_kind, is_predicate, is_kept_symbol, fixes_symbol, may_mangle_symbol}
 use Rattle.mangle_model.specs.Mangling.{may_change}
-use Rattle.mangle_model.specs.OneNameEach.{symbol_names, name_pairs, names_by}
+use Rattle.mangle_model.specs.OneNameEach.{symbol_names, name_pairs, names_by_name}
 use Rattle.mangle_model.proofs.EachPair.{turned, clash, neither, other_way, IsOld, IsUnusedName, old_in, new_in, words_not_given}
 use Rattle.mangle_model.proofs.MappedNames.{Pair, Found, found, IsPlain, IsNotNew}
 
@@ -29,12 +29,12 @@ module _ (pairs : List Pair) where
   abbrev new_of : Name → Option Name
   new_of name = lookup (bytes_eq name) pairs
 
-  same_entry : (s : ℕ) (ys : List Symbol) → listed (names_by pairs ys) s ≡ option_and_then (λ (y : Symbol). new_of y.name) (slice_get ys s)
+  same_entry : (s : ℕ) (ys : List Symbol) → assignment_of (names_by_name pairs ys) s ≡ option_and_then (λ (y : Symbol). new_of y.name) (slice_get ys s)
   same_entry s [] = refl
   same_entry zero (y ∷ ys) = refl
   same_entry (suc s) (y ∷ ys) = same_entry s ys
 
-  pub listed_at : (ys : List Symbol) (s : ℕ) (y : Symbol) → slice_get ys s ≡ Some y → listed (names_by pairs ys) s ≡ new_of y.name
+  pub listed_at : (ys : List Symbol) (s : ℕ) (y : Symbol) → slice_get ys s ≡ Some y → assignment_of (names_by_name pairs ys) s ≡ new_of y.name
   listed_at ys s y e = same_entry s ys ∙ ap (option_and_then (λ (z : Symbol). new_of z.name)) e
 
   -- a symbol with a new name is there
@@ -43,7 +43,7 @@ module _ (pairs : List Pair) where
     pub is_there : slice_get ys s ≡ Some symbol
     pub new : new_of symbol.name ≡ Some name
 
-  pub listed_some : (ys : List Symbol) (s : ℕ) (name : Name) → listed (names_by pairs ys) s ≡ Some name → Listed ys s name
+  pub listed_some : (ys : List Symbol) (s : ℕ) (name : Name) → assignment_of (names_by_name pairs ys) s ≡ Some name → Listed ys s name
   listed_some ys s name e = go (slice_get ys s) refl (sym (same_entry s ys) ∙ e)
     where
       go : (o : Option Symbol) → slice_get ys s ≡ o → option_and_then (λ (y : Symbol). new_of y.name) o ≡ Some name → Listed ys s name
@@ -157,7 +157,7 @@ module _ (o : Options) (p : Tree) where
 
   -- ---- what symbols are given
 
-  pub given_named : (s : ℕ) (name : Name) → IsNamed a.tables s name → listed (names_by pairs symbols) s ≡ lookup (bytes_eq name) pairs
+  pub given_named : (s : ℕ) (name : Name) → IsNamed a.tables s name → assignment_of (names_by_name pairs symbols) s ≡ lookup (bytes_eq name) pairs
   given_named s name w = listed_at pairs symbols s w.symbol w.is_there ∙ ap (λ x. lookup (bytes_eq x) pairs) w.named
 
   -- a symbol with a new name may change, and has an old name
@@ -167,7 +167,7 @@ module _ (o : Options) (p : Tree) where
     pub may_be : may s ≡ true
     pub unused : IsUnusedName may a p name
 
-  pub gets : (s : ℕ) (name : Name) → listed (names_by pairs symbols) s ≡ Some name → Gets s name
+  pub gets : (s : ℕ) (name : Name) → assignment_of (names_by_name pairs symbols) s ≡ Some name → Gets s name
   gets s name e =
       let l : Listed pairs symbols s name = listed_some pairs symbols s name e in
       let f : Found pairs l.symbol.name name = found pairs l.symbol.name name l.new in record {

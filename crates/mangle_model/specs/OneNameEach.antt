@@ -10,18 +10,18 @@ use Rattle.std.specs.List.{list_any, range_with_len}
 use Rattle.std.specs.Map.{lookup}
 use Rattle.semantic_syntax.specs.Tables.{Name, Symbol, Tables}
 use Rattle.semantic_tree.specs.Forest.{Forest, nothing, tree}
-use Rattle.semantic_tree.specs.Renamed.{is_named, setting_below}
+use Rattle.semantic_tree.specs.Renamed.{is_program_name, setting_below}
 use Rattle.semantic_tree.specs.Tree.{Tree}
 use Rattle.semantic_tree.specs.declared.swap.Setting.{Setting}
 use Rattle.semantic_tree.specs.declared.swap.Setting.TheVariants.{Elsewhere}
 use Rattle.semantic_model.specs.Analysis.{Analysis, symbol_at, tied_at, analysis_of}
-use Rattle.mangle_model.specs.Assignment.{listed}
+use Rattle.mangle_model.specs.Assignment.{assignment_of}
 use Rattle.mangle_model.specs.GoodNames.{reserved_words, is_free_name, is_kept_name}
 use Rattle.mangle_model.specs.MayMangle.{Options}
 use Rattle.mangle_model.specs.Mangling.{may_change}
 use Rattle.mangle_model.specs.Renamed.{renamed_by}
 use Rattle.mangle_model.specs.ShortNames.{short_name}
-use Rattle.mangle_model.specs.Written.{size_of, written}
+use Rattle.mangle_model.specs.Written.{size_of, size_written}
 
 -- ---- which names change
 
@@ -37,7 +37,7 @@ bears_such may a id = is_such may (symbol_at a id) || is_such may (tied_at a id)
 abbrev pub fixed_below : (bears : ℕ → Bool) → Setting → Forest → List Name
 fixed_below bears setting nothing = []
 fixed_below bears setting (tree r k span text marks below id after) =
-    cond (is_named setting r k && not (bears id)) (text ∷ []) [] ++ (fixed_below bears (setting_below setting r k) below ++ fixed_below bears setting after)
+    cond (is_program_name setting r k && not (bears id)) (text ∷ []) [] ++ (fixed_below bears (setting_below setting r k) below ++ fixed_below bears setting after)
 
 -- the name is free, or a symbol has it that must keep it, or a node that bears no symbol which may change
 abbrev pub is_fixed_name : (may : ℕ → Bool) → Analysis → Tree → Name → Bool
@@ -86,16 +86,16 @@ name_pairs may a p = filter is_shorter (zip (changing_names may a p) (unused_nam
 -- ---- all together
 
 -- each symbol has the new name of its name
-abbrev pub names_by : List (Name × Name) → List Symbol → List (Option Name)
-names_by pairs symbols = map (λ y. lookup (bytes_eq y.name) pairs) symbols
+abbrev pub names_by_name : List (Name × Name) → List Symbol → List (Option Name)
+names_by_name pairs symbols = map (λ y. lookup (bytes_eq y.name) pairs) symbols
 
 abbrev pub each_named : Options → Tree → List (Option Name)
-each_named o p = let a : Analysis = analysis_of p in names_by (name_pairs (may_change o p) a p) a.tables.symbols
+each_named o p = let a : Analysis = analysis_of p in names_by_name (name_pairs (may_change o p) a p) a.tables.symbols
 
 -- these names, or none where the program would be longer, as `{ name: a }` is than `{ name }`
 abbrev pub one_name_each : Options → Tree → List (Option Name)
-one_name_each o p = let names : List (Option Name) = each_named o p in cond (nat_le (written (renamed_by (listed names) p)) (written p)) names []
+one_name_each o p = let names : List (Option Name) = each_named o p in cond (nat_le (size_written (renamed_by (assignment_of names) p)) (size_written p)) names []
 
 -- the program with these names
 abbrev pub simply_mangled : Options → Tree → Tree
-simply_mangled o p = renamed_by (listed (one_name_each o p)) p
+simply_mangled o p = renamed_by (assignment_of (one_name_each o p)) p

@@ -3,7 +3,7 @@ ghost use Rattle.std.specs.Prelude.{◌≡◌, ◌<◌, ◌||◌, ◌&&◌, not,
 ghost use Rattle.std.specs.List.{list_any};
 ghost use Rattle.semantic_syntax.specs.Reading.{symbol_of};
 ghost use Rattle.mangle_model.specs.GoodNames.{is_free_name, is_kept_name};
-ghost use Rattle.mangle_names.specs.Marks.{at};
+ghost use Rattle.mangle_names.specs.Marks.{is_number_marked};
 
 use crate::name_set::NameSet;
 use crate::numbers::is_marked;
@@ -39,7 +39,8 @@ fn add_kept_name(
     ensures { OnOk result ((q : List ℕ)
         → list_any (bytes_eq q) names.new
         ≡ (list_any (bytes_eq q) names.old
-        || (not (at may.now symbol) && bytes_eq q (symbol_of scoping.now symbol).name))) }
+        || (not (is_number_marked may.now symbol)
+        && bytes_eq q (symbol_of scoping.now symbol).name))) }
 {
     if is_marked(may, symbol.index()) {
         return Ok(());
@@ -56,7 +57,8 @@ fn add_kept_names(
 ) -> Result<(), AllocError>
     ensures { OnOk result ((q : List ℕ)
         → list_any (bytes_eq q) names.new
-        ≡ (list_any (bytes_eq q) names.old || is_kept_name (at may.now) q 0 scoping.now.symbols)) }
+        ≡ (list_any (bytes_eq q) names.old
+        || is_kept_name (is_number_marked may.now) q 0 scoping.now.symbols)) }
 {
     for number in 0..(scoping.symbols_len() as u32) {
         add_kept_name(alloc, names, scoping, may, SymbolId::new(number))?;
@@ -68,7 +70,8 @@ fn add_kept_names(
 pub fn barred_names(alloc: Global, scoping: &Scoping, may: &[bool]) -> Result<NameSet, AllocError>
     ensures { IfOk result (λ names. (q : List ℕ)
         → list_any (bytes_eq q) names
-        ≡ (is_free_name scoping.now q || is_kept_name (at may.now) q 0 scoping.now.symbols)) }
+        ≡ (is_free_name scoping.now q
+        || is_kept_name (is_number_marked may.now) q 0 scoping.now.symbols)) }
 {
     let mut names = NameSet::new(alloc);
     add_free_names(alloc, &mut names, scoping)?;

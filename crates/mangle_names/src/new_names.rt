@@ -1,7 +1,7 @@
 //! New names for symbols.
 ghost use Rattle.std.specs.Prelude.{◌≡◌, ◌++◌, [], ◌∷◌, Some, None, length, option_map, OnOk};
 ghost use Rattle.std.specs.Str.{chars};
-ghost use Rattle.mangle_model.specs.Assignment.{listed};
+ghost use Rattle.mangle_model.specs.Assignment.{assignment_of};
 
 use semantic_syntax::SymbolId;
 use std::alloc::{AllocError, Global};
@@ -58,7 +58,7 @@ impl NewNames {
 
     /// The new name of the symbol of this number, if any.
     pub fn name_at(&self, number: usize) -> Option<&str>
-        ensures { option_map (λ name. chars name.now) result ≡ listed self.now number }
+        ensures { option_map (λ name. chars name.now) result ≡ assignment_of self.now number }
     {
         match self.names.get(number) {
             Some(Some(name)) => Some(name.as_str()),
@@ -68,7 +68,7 @@ impl NewNames {
 
     /// The new name of the symbol, if any.
     pub fn get(&self, symbol: SymbolId) -> Option<&str>
-        ensures { option_map (λ name. chars name.now) result ≡ listed self.now symbol }
+        ensures { option_map (λ name. chars name.now) result ≡ assignment_of self.now symbol }
     {
         self.name_at(symbol.index())
     }

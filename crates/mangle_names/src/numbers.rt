@@ -1,6 +1,6 @@
 //! Lists of numbers and marks, where a place past the end is none.
 ghost use Rattle.std.specs.Prelude.{◌≡◌};
-ghost use Rattle.mangle_names.specs.Marks.{at};
+ghost use Rattle.mangle_names.specs.Marks.{is_number_marked};
 
 use std::alloc::{AllocError, Global};
 
@@ -34,7 +34,7 @@ pub fn put(all: &mut Vec<usize>, index: usize, value: usize) {
 
 /// Whether the place is marked.
 pub fn is_marked(marks: &[bool], index: usize) -> bool
-    ensures { result ≡ at marks.now index }
+    ensures { result ≡ is_number_marked marks.now index }
 {
     index < marks.len() && marks[index]
 }

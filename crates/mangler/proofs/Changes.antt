@@ -15,7 +15,7 @@ use Rattle.rename_model.specs.Renamed.{bears_name}
 use Rattle.mangle_model.specs.MayMangle.{Options, fixes_symbol, is_global, is_kept_symbol, is_of_wrapper, is_open_scope, may_mangle_symbol}
 use Rattle.mangle_model.specs.Mangling.{may_change}
 use Rattle.mangler.specs.Changing.{must_keep}
-use Rattle.mangle_names.specs.Marks.{at}
+use Rattle.mangle_names.specs.Marks.{is_number_marked}
 
 not_or : (a b : Bool) → not (a || b) ≡ (not a && not b)
 not_or true b = refl
@@ -59,16 +59,16 @@ past_symbols o p s h =
 
 -- ---- marks
 
-pub at_before : (xs : List Bool) (b : Bool) (s : ℕ) → s < length xs → at (xs ++ b ∷ []) s ≡ at xs s
+pub at_before : (xs : List Bool) (b : Bool) (s : ℕ) → s < length xs → is_number_marked (xs ++ b ∷ []) s ≡ is_number_marked xs s
 at_before [] b s h = absurd (omega arith)
 at_before (x ∷ xs) b zero h = refl
 at_before (x ∷ xs) b (suc s) h = at_before xs b s (omega arith)
 
-pub at_last : (xs : List Bool) (b : Bool) → at (xs ++ b ∷ []) (length xs) ≡ b
+pub at_last : (xs : List Bool) (b : Bool) → is_number_marked (xs ++ b ∷ []) (length xs) ≡ b
 at_last [] b = refl
 at_last (x ∷ xs) b = at_last xs b
 
-pub at_past : (xs : List Bool) (s : ℕ) → length xs ≤ s → at xs s ≡ false
+pub at_past : (xs : List Bool) (s : ℕ) → length xs ≤ s → is_number_marked xs s ≡ false
 at_past [] s h = refl
 at_past (x ∷ xs) zero h = absurd (omega arith)
 at_past (x ∷ xs) (suc s) h = at_past xs s (omega arith)
@@ -83,7 +83,7 @@ before_or_at s n h = go (nat_lt s n) refl
 -- the symbols so far are marked
 pub record Marked (may : ℕ → Bool) (marks : List Bool) (number : ℕ) : Type 0 where
   pub long : length marks ≡ number
-  pub each : (s : ℕ) → s < number → at marks s ≡ may s
+  pub each : (s : ℕ) → s < number → is_number_marked marks s ≡ may s
 
 longer : (xs : List Bool) (b : Bool) → length (xs ++ b ∷ []) ≡ length xs + 1
 longer [] b = refl
@@ -92,19 +92,19 @@ longer (x ∷ xs) b = ap (λ n. suc n) (longer xs b) ∙ omega arith
 pub one_marked : (may : ℕ → Bool) (marks new : List Bool) (number : ℕ) (b : Bool) → new ≡ marks ++ b ∷ [] → b ≡ may number → Marked may marks number → Marked may new (number + 1)
 one_marked may marks new number b grown is far = record {
   long = ap length grown ∙ longer marks b ∙ ap (λ n. n + 1) far.long;
-  each = λ s h. ap (λ xs. at xs s) grown ∙ go s h (before_or_at s number h);
+  each = λ s h. ap (λ xs. is_number_marked xs s) grown ∙ go s h (before_or_at s number h);
 }
   where
-    go : (s : ℕ) → s < number + 1 → (s < number) ⊎ (s ≡ number) → at (marks ++ b ∷ []) s ≡ may s
+    go : (s : ℕ) → s < number + 1 → (s < number) ⊎ (s ≡ number) → is_number_marked (marks ++ b ∷ []) s ≡ may s
     go s h (inl i) = let l : length marks ≡ number = far.long in at_before marks b s (omega (arith, l, i)) ∙ far.each s i
-    go s h (inr e) = ap (at (marks ++ b ∷ [])) (e ∙ sym far.long) ∙ at_last marks b ∙ is ∙ ap may (sym e)
+    go s h (inr e) = ap (is_number_marked (marks ++ b ∷ [])) (e ∙ sym far.long) ∙ at_last marks b ∙ is ∙ ap may (sym e)
 
 -- all are
 pub all_marked : (o : Options) (p : Tree) (t : Tables) (marks : List Bool) (number : ℕ) → t ≡ (analysis_of p).tables → length t.symbols ≤ number → number ≤ length t.symbols → Marked (may_change o p) marks number
-    → (s : ℕ) → at marks s ≡ may_change o p s
+    → (s : ℕ) → is_number_marked marks s ≡ may_change o p s
 all_marked o p t marks number same ended within far s = go (nat_lt s number) refl
   where
-    go : (b : Bool) → nat_lt s number ≡ b → at marks s ≡ may_change o p s
+    go : (b : Bool) → nat_lt s number ≡ b → is_number_marked marks s ≡ may_change o p s
     go true e = far.each s ((Decides-ltb s number).0 e)
     go false e =
         let past : number ≤ s = grind (arith, nat_tests, e) in

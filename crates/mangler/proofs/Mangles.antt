@@ -14,10 +14,10 @@ use Rattle.semantic_model.proofs.fits.Afterwards.{lists_begin}
 use Rattle.rename_model.specs.Same.{first_difference}
 use Rattle.rename_model.specs.WithName.{AreIdentifiers}
 use Rattle.rename_model.proofs.Differences.{exact_none}
-use Rattle.mangle_model.specs.Assignment.{Assignment, first_name, is_new, listed, nothing_new}
+use Rattle.mangle_model.specs.Assignment.{Assignment, first_name, has_new_name, assignment_of, nothing_new}
 use Rattle.mangle_model.specs.GoodNames.{is_ascii_identifier, is_free_name, is_good_name, is_kept_name, is_reserved}
 use Rattle.mangle_model.specs.MayMangle.{Options}
-use Rattle.mangle_model.specs.Mangling.{all_identifiers, all_pass, is_no_node, may_change, passes, IsMangled}
+use Rattle.mangle_model.specs.Mangling.{all_identifiers, all_pass, is_no_node, may_change, may_take, IsMangled}
 use Rattle.mangle_model.specs.Renamed.{given, new_name, renamed_by}
 use Rattle.mangle_model.specs.Tests.{are_renamed}
 use Rattle.mangle_model.specs.WithNames.{is_given, with_names_in, AreSomeNames, IsSomeName}
@@ -62,78 +62,78 @@ good_is may a barred h name =
 
 pub givable_by : (may : ℕ → Bool) (p : Tree) (names : List (Option Name)) (a : Analysis) (barred : List Name) (pass identifiers : Bool) → a ≡ analysis_of p
     → ((q : Name) → list_any (bytes_eq q) barred ≡ (is_free_name a.tables q || is_kept_name may q 0 a.tables.symbols))
-    → pass ≡ all_pass (passes_by may barred) 0 names → identifiers ≡ all_identifiers (is_given (given (listed names) a)) p.root.children
+    → pass ≡ all_pass (passes_by may barred) 0 names → identifiers ≡ all_identifiers (is_given (given (assignment_of names) a)) p.root.children
     → pass ≡ true → identifiers ≡ true → AreGivable may p names
 givable_by may p names a barred pass identifiers e h is all passed found = record {
-  pass = sym (is ∙ (λ i. all_pass (λ s name. may s && good_is may a barred h name i) 0 names) ∙ ap (λ (b : Analysis). all_pass (passes may b) 0 names) e) ∙ passed;
-  identifiers = sym (all ∙ ap (λ (b : Analysis). all_identifiers (is_given (given (listed names) b)) p.root.children) e) ∙ found;
+  pass = sym (is ∙ (λ i. all_pass (λ s name. may s && good_is may a barred h name i) 0 names) ∙ ap (λ (b : Analysis). all_pass (may_take may b) 0 names) e) ∙ passed;
+  identifiers = sym (all ∙ ap (λ (b : Analysis). all_identifiers (is_given (given (assignment_of names) b)) p.root.children) e) ∙ found;
 }
 
 module _ (may : ℕ → Bool) (p : Tree) (names : List (Option Name)) (g : AreGivable may p names) where
-  pub each_good : (s : ℕ) (name : Name) → listed names s ≡ Some name → passes may (analysis_of p) s name ≡ true
-  each_good s name l = subst (λ k. passes may (analysis_of p) k name ≡ true) (from_zero s) (each_passes (passes may (analysis_of p)) 0 names g.pass s name l)
+  pub each_good : (s : ℕ) (name : Name) → assignment_of names s ≡ Some name → may_take may (analysis_of p) s name ≡ true
+  each_good s name l = subst (λ k. may_take may (analysis_of p) k name ≡ true) (from_zero s) (each_passes (may_take may (analysis_of p)) 0 names g.pass s name l)
 
-  pub names_are_some : AreSomeNames (given (listed names) (analysis_of p))
-  names_are_some = some_given (listed names) (λ s name l. good_some may p name (and_parts (may s) (is_good_name may (analysis_of p).tables name) (each_good s name l)).1) (analysis_of p)
+  pub names_are_some : AreSomeNames (given (assignment_of names) (analysis_of p))
+  names_are_some = some_given (assignment_of names) (λ s name l. good_some may p name (and_parts (may s) (is_good_name may (analysis_of p).tables name) (each_good s name l)).1) (analysis_of p)
 
-  pub givens_are_identifiers : AreIdentifiers (is_given (given (listed names) (analysis_of p))) p.root.children
-  givens_are_identifiers = each_identifier (is_given (given (listed names) (analysis_of p))) p.root.children g.identifiers
+  pub givens_are_identifiers : AreIdentifiers (is_given (given (assignment_of names) (analysis_of p))) p.root.children
+  givens_are_identifiers = each_identifier (is_given (given (assignment_of names) (analysis_of p))) p.root.children g.identifiers
 
 -- by an analysis that tables tell
-pub some_by : (may : ℕ → Bool) (p : Tree) (names : List (Option Name)) (a : Analysis) → a ≡ analysis_of p → AreGivable may p names → AreSomeNames (given (listed names) a)
-some_by may p names a e g = subst (λ (b : Analysis). AreSomeNames (given (listed names) b)) (sym e) (names_are_some may p names g)
+pub some_by : (may : ℕ → Bool) (p : Tree) (names : List (Option Name)) (a : Analysis) → a ≡ analysis_of p → AreGivable may p names → AreSomeNames (given (assignment_of names) a)
+some_by may p names a e g = subst (λ (b : Analysis). AreSomeNames (given (assignment_of names) b)) (sym e) (names_are_some may p names g)
 
-pub identifiers_by : (may : ℕ → Bool) (p : Tree) (names : List (Option Name)) (a : Analysis) → a ≡ analysis_of p → AreGivable may p names → AreIdentifiers (is_given (given (listed names) a)) p.root.children
-identifiers_by may p names a e g = subst (λ (b : Analysis). AreIdentifiers (is_given (given (listed names) b)) p.root.children) (sym e) (givens_are_identifiers may p names g)
+pub identifiers_by : (may : ℕ → Bool) (p : Tree) (names : List (Option Name)) (a : Analysis) → a ≡ analysis_of p → AreGivable may p names → AreIdentifiers (is_given (given (assignment_of names) a)) p.root.children
+identifiers_by may p names a e g = subst (λ (b : Analysis). AreIdentifiers (is_given (given (assignment_of names) b)) p.root.children) (sym e) (givens_are_identifiers may p names g)
 
 -- ---- the mangled program
 
 pub mangled_by : (o : Options) (p : Tree) (names : List (Option Name)) (a : Analysis) (may : ℕ → Bool) (made q : Tree) → first_fault p ≡ None → IsNumbered p.root → a ≡ analysis_of p → ((s : ℕ) → may s ≡ may_change o p s)
-    → AreGivable may p names → made ≡ with_names_in (given (listed names) a) p → (q ≡ made) × IsGoodCopy (listed names) p q → IsMangled o p names q
+    → AreGivable may p names → made ≡ with_names_in (given (assignment_of names) a) p → (q ≡ made) × IsGoodCopy (assignment_of names) p q → IsMangled o p names q
 mangled_by o p names a may made q faultless numbered e same g is (here, (alike, shorter)) =
     let sames : may ≡ may_change o p = λ i s. same s i in
     let h : AreGivable (may_change o p) p names = subst (λ (m : ℕ → Bool). AreGivable m p names) sames g in
-    let copy : q ≡ renamed_by (listed names) p = here ∙ is ∙ ap (λ (b : Analysis). with_names_in (given (listed names) b) p) e in
+    let copy : q ≡ renamed_by (assignment_of names) p = here ∙ is ∙ ap (λ (b : Analysis). with_names_in (given (assignment_of names) b) p) e in
     record {
       made = copy;
       may = λ s name l. (and_parts (may_change o p s) (is_good_name (may_change o p) (analysis_of p).tables name) (each_good (may_change o p) p names h s name l)).0;
       good = λ s name l. (and_parts (may_change o p s) (is_good_name (may_change o p) (analysis_of p).tables name) (each_good (may_change o p) p names h s name l)).1;
       alike = record { tables = alike.tables; nodes = exact_none p q alike.nodes };
       shorter = shorter;
-      sound = ap first_fault copy ∙ no_fault_made (given (listed names) (analysis_of p)) (names_are_some (may_change o p) p names h) p (givens_are_identifiers (may_change o p) p names h) faultless;
-      numbered = subst (λ (t : Tree). IsNumbered t.root) (sym copy) (numbers_kept (given (listed names) (analysis_of p)) p numbered);
+      sound = ap first_fault copy ∙ no_fault_made (given (assignment_of names) (analysis_of p)) (names_are_some (may_change o p) p names h) p (givens_are_identifiers (may_change o p) p names h) faultless;
+      numbered = subst (λ (t : Tree). IsNumbered t.root) (sym copy) (numbers_kept (given (assignment_of names) (analysis_of p)) p numbered);
     }
 
 -- ---- the program itself
 
-nothing_given : (a : Analysis) (id : ℕ) → given (listed []) a id ≡ None
+nothing_given : (a : Analysis) (id : ℕ) → given (assignment_of []) a id ≡ None
 nothing_given a id = go (symbol_at a id) (tied_at a id)
   where
-    none : (o : Option ℕ) → new_name (listed []) o ≡ None
+    none : (o : Option ℕ) → new_name (assignment_of []) o ≡ None
     none None = refl
     none (Some s) = refl
 
-    go : (x y : Option ℕ) → first_name (new_name (listed []) x) (new_name (listed []) y) ≡ None
+    go : (x y : Option ℕ) → first_name (new_name (assignment_of []) x) (new_name (assignment_of []) y) ≡ None
     go None y = none y
     go (Some s) y = none y
 
 none_identified : (given : ℕ → Option Name) → ((id : ℕ) → given id ≡ None) → (f : Forest) → AreIdentifiers (is_given given) f
 none_identified given h nothing = tt
 none_identified given h (tree r k span text marks below id after) =
-    ((λ e. let no : false ≡ true = sym (ap is_new (h id)) ∙ e in absurd cc), none_identified given h below, none_identified given h after)
+    ((λ e. let no : false ≡ true = sym (ap has_new_name (h id)) ∙ e in absurd cc), none_identified given h below, none_identified given h after)
 
 none_some : (given : ℕ → Option Name) → ((id : ℕ) → given id ≡ None) → AreSomeNames given
 none_some given h id = subst IsSomeName (sym (h id)) tt
 
 module _ (a : Analysis) (names : List (Option Name)) (none : names ≡ []) where
-  pub no_names_some : AreSomeNames (given (listed names) a)
-  no_names_some = subst (λ n. AreSomeNames (given (listed n) a)) (sym none) (none_some (given (listed []) a) (nothing_given a))
+  pub no_names_some : AreSomeNames (given (assignment_of names) a)
+  no_names_some = subst (λ n. AreSomeNames (given (assignment_of n) a)) (sym none) (none_some (given (assignment_of []) a) (nothing_given a))
 
-  pub no_names_identified : (f : Forest) → AreIdentifiers (is_given (given (listed names) a)) f
-  no_names_identified f = subst (λ n. AreIdentifiers (is_given (given (listed n) a)) f) (sym none) (none_identified (given (listed []) a) (nothing_given a) f)
+  pub no_names_identified : (f : Forest) → AreIdentifiers (is_given (given (assignment_of names) a)) f
+  no_names_identified f = subst (λ n. AreIdentifiers (is_given (given (assignment_of n) a)) f) (sym none) (none_identified (given (assignment_of []) a) (nothing_given a) f)
 
-pub itself_by : (o : Options) (p : Tree) (names : List (Option Name)) (a : Analysis) (q : Tree) → first_fault p ≡ None → IsNumbered p.root → a ≡ analysis_of p → names ≡ [] → q ≡ with_names_in (given (listed names) a) p → IsMangled o p names q
+pub itself_by : (o : Options) (p : Tree) (names : List (Option Name)) (a : Analysis) (q : Tree) → first_fault p ≡ None → IsNumbered p.root → a ≡ analysis_of p → names ≡ [] → q ≡ with_names_in (given (assignment_of names) a) p → IsMangled o p names q
 itself_by o p names a q faultless numbered e none is =
-    let none_listed : listed [] ≡ nothing_new = λ i s. None in
-    let copy : q ≡ p = is ∙ (λ i. with_names_in (given (listed (none i)) (e i)) p) ∙ ap (λ n. renamed_by n p) none_listed ∙ none_is_itself p in
+    let none_listed : assignment_of [] ≡ nothing_new = λ i s. None in
+    let copy : q ≡ p = is ∙ (λ i. with_names_in (given (assignment_of (none i)) (e i)) p) ∙ ap (λ n. renamed_by n p) none_listed ∙ none_is_itself p in
     subst (λ (t : Tree). IsMangled o p names t) (sym copy) (subst (λ n. IsMangled o p n p) (sym none) (itself o p faultless numbered))

@@ -21,7 +21,7 @@ use Rattle.semantic_model.specs.Step.{Step, entering, steps_below, steps, root_p
 use Rattle.semantic_model.proofs.steps.Turn.{Turn, turn_at}
 use Rattle.mangle_model.specs.MayMangle.{is_predicate, fixes_symbol, is_property_parameter, is_parameter_property}
 use Rattle.mangler.specs.Predicates.{predicate_at, predicates_below, predicates_from}
-use Rattle.mangler.specs.Spots.{child_spot, names_property, is_element, names_element_or_property, seen_at, seen_below, seen_from}
+use Rattle.mangler.specs.Spots.{child_spot, names_property, is_jsx_element, names_element_or_property, seen_at, seen_below, seen_from}
 use Rattle.mangler.specs.declared.spot.Spot.{Spot}
 use Rattle.mangler.proofs.AnyOf.{any_append, any_turn, any_root, none_open, none_last, none_ended}
 
@@ -88,7 +88,7 @@ target : (path : List Node) → parent_holds (is kind.AssignmentTargetPropertyId
 target [] = refl
 target (x ∷ xs) = refl
 
-element : (path : List Node) → parent_holds (λ x. holds_kind (kind.JSXOpeningElement ∷ kind.JSXClosingElement ∷ []) x.kind) path ≡ is_element (parent_kind path)
+element : (path : List Node) → parent_holds (λ x. holds_kind (kind.JSXOpeningElement ∷ kind.JSXClosingElement ∷ []) x.kind) path ≡ is_jsx_element (parent_kind path)
 element [] = refl
 element (x ∷ xs) = refl
 

@@ -27,13 +27,13 @@ child_spot spot x r = record {
 abbrev pub names_property : Spot → AstType → Bool
 names_property spot k = same_kind k kind.TSEnumMember || (same_role spot.role role.Binding && is_that_kind spot.parent kind.AssignmentTargetPropertyIdentifier)
 
-abbrev pub is_element : Option AstType → Bool
-is_element None = false
-is_element (Some k) = holds_kind (kind.JSXOpeningElement ∷ kind.JSXClosingElement ∷ []) k
+abbrev pub is_jsx_element : Option AstType → Bool
+is_jsx_element None = false
+is_jsx_element (Some k) = holds_kind (kind.JSXOpeningElement ∷ kind.JSXClosingElement ∷ []) k
 
 -- or of an element, or of a parameter that is a property too
 abbrev pub names_element_or_property : Spot → Bool
-names_element_or_property spot = (same_role spot.role role.Name && is_element spot.parent) || spot.names_property
+names_element_or_property spot = (same_role spot.role role.Name && is_jsx_element spot.parent) || spot.names_property
 
 -- the node, where others see its name or it is exported
 abbrev pub seen_at : (exported : ℕ → Bool) → Spot → Node → List ℕ

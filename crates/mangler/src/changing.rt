@@ -10,7 +10,7 @@ ghost use Rattle.renamer.specs.Told.{told_by};
 ghost use Rattle.mangle_model.specs.MayMangle.{is_global, is_kept_kind, is_kept_symbol, is_of_wrapper, is_open_scope, wrapper_names};
 ghost use Rattle.mangle_model.specs.Mangling.{may_change};
 ghost use Rattle.mangler.specs.Changing.{must_keep, options_of, IsSeen};
-ghost use Rattle.mangle_names.specs.Marks.{at};
+ghost use Rattle.mangle_names.specs.Marks.{is_number_marked};
 ghost use Rattle.mangler.specs.Withs.{EndsWith};
 
 use crate::options::MangleOptions;
@@ -144,7 +144,7 @@ pub fn changing_symbols(
     requires analysis { told_by analysed.now ≡ analysis_of program.now }
     requires seen { IsSeen program.now seen.now }
     ensures { IfOk result (λ may. (s : ℕ)
-        → at may.items s ≡ may_change (options_of options) program.now s) }
+        → is_number_marked may.items s ≡ may_change (options_of options) program.now s) }
 {
     let mut may = Vec::new(alloc);
     for number in 0..(analysed.scoping.symbols_len() as u32) {

@@ -1,7 +1,7 @@
 //! Whether tables are others with new names, part by part.
 ghost use Rattle.std.specs.Prelude.{◌≡◌, ◌≤◌, ◌<◌, length};
 ghost use Rattle.semantic_model.specs.Moment.{ListsBeginWithOwn};
-ghost use Rattle.mangle_model.specs.Assignment.{listed};
+ghost use Rattle.mangle_model.specs.Assignment.{assignment_of};
 ghost use Rattle.mangle_model.specs.Tests.{are_renamed};
 
 mod free_names;
@@ -22,7 +22,7 @@ pub use values::is_same_text;
 pub fn are_renamed(names: &NewNames, one: &Scoping, other: &Scoping) -> bool
     requires one { ListsBeginWithOwn one.now }
     requires other { ListsBeginWithOwn other.now }
-    ensures { result ≡ are_renamed (listed names.now) one.now other.now }
+    ensures { result ≡ are_renamed (assignment_of names.now) one.now other.now }
 {
     are_same_scopes(one, other)
         && are_same_bindings(names, one, other)

@@ -8,7 +8,7 @@ ghost use Rattle.semantic_tree.specs.Forest.{join};
 ghost use Rattle.semantic_tree.specs.Tree.{numbered_tree};
 ghost use Rattle.program_laws.specs.ReadMarks.{without_mark, without_where};
 ghost use Rattle.rename_model.specs.WithName.{is_named_value, sheds, AreIdentifiers};
-ghost use Rattle.mangle_model.specs.Assignment.{listed, name_or};
+ghost use Rattle.mangle_model.specs.Assignment.{assignment_of, name_or};
 ghost use Rattle.mangle_model.specs.Renamed.{given};
 ghost use Rattle.mangle_model.specs.WithNames.{is_given, with_names, with_names_in, AreSomeNames};
 ghost use Rattle.renamer.specs.Renaming.{IsKnown, AreKnown, with_kept};
@@ -25,7 +25,7 @@ use std::alloc::{AllocError, Global};
 /// Whether a value is given a name, or its left is.
 fn is_named_value(analysed: &Analysed<'_>, names: &NewNames, value: AstKind<'_>) -> bool
     ensures { result ≡ is_named_value
-        (is_given (given (listed names.now) (told_by analysed.now))) value.entry.node.now }
+        (is_given (given (assignment_of names.now) (told_by analysed.now))) value.entry.node.now }
 {
     if is_given(analysed, names, value.node_id()) {
         return true;
@@ -38,7 +38,7 @@ fn is_named_value(analysed: &Analysed<'_>, names: &NewNames, value: AstKind<'_>)
 
 /// Whether the node is a property that can't be written in short any more.
 fn sheds(analysed: &Analysed<'_>, names: &NewNames, node: AstKind<'_>) -> bool
-    ensures { result ≡ sheds (is_given (given (listed names.now) (told_by analysed.now)))
+    ensures { result ≡ sheds (is_given (given (assignment_of names.now) (told_by analysed.now)))
         node.entry.node.now }
 {
     if !matches!(
@@ -83,7 +83,7 @@ fn without_shorthand(marks: Marks) -> Marks
 fn marks_of(analysed: &Analysed<'_>, names: &NewNames, node: AstKind<'_>) -> Marks
     requires { IsKnown node.node.now.kind node.node.now.marks }
     ensures { result ≡ without_where
-        (sheds (is_given (given (listed names.now) (told_by analysed.now)))) shorthand
+        (sheds (is_given (given (assignment_of names.now) (told_by analysed.now)))) shorthand
         node.entry.node.now }
 {
     if sheds(analysed, names, node) {
@@ -96,7 +96,7 @@ fn marks_of(analysed: &Analysed<'_>, names: &NewNames, node: AstKind<'_>) -> Mar
 /// The text that the node has then.
 fn text_of<'a>(analysed: &Analysed<'_>, names: &'a NewNames, node: &'a Node) -> &'a str
     ensures { chars result.now ≡ name_or
-        (given (listed names.now) (told_by analysed.now) node.now.node_id) node.now.text }
+        (given (assignment_of names.now) (told_by analysed.now) node.now.node_id) node.now.text }
 {
     match given(analysed, names, node.node_id) {
         Some(name) => name,
@@ -113,7 +113,7 @@ fn renamed_alone(
 ) -> Result<Node, AllocError>
     requires { IsKnown node.now.kind node.now.marks }
     ensures { IfOk result (λ made. made
-        ≡ alone (given (listed names.now) (told_by analysed.now)) node.now) }
+        ≡ alone (given (assignment_of names.now) (told_by analysed.now)) node.now) }
 {
     let text = text_of(analysed, names, node);
     let marks = marks_of(analysed, names, AstKind::new(node));
@@ -135,7 +135,8 @@ fn push_renamed(
     ensures { OnOk result (into.new
         ≡ record into.old {
           children = join into.old.children
-              (with_names (given (listed names.now) (told_by analysed.now)) from.now.children);
+              (with_names (given (assignment_of names.now) (told_by analysed.now))
+              from.now.children);
         }) }
 {
     for (role, child) in from.children.as_slice() {
@@ -159,7 +160,8 @@ fn renamed_root(
     requires { AreKnown root.now.children }
     ensures { IfOk result (λ made. made
         ≡ record root.now {
-          children = with_names (given (listed names.now) (told_by analysed.now)) root.now.children;
+          children = with_names
+              (given (assignment_of names.now) (told_by analysed.now)) root.now.children;
           node_id = 0;
         }) }
 {
@@ -205,11 +207,12 @@ pub fn renamed_by(
     analysed: &Analysed<'_>,
     names: &NewNames,
 ) -> Result<Program, AllocError>
-    requires some { AreSomeNames (given (listed names.now) (told_by analysed.now)) }
+    requires some { AreSomeNames (given (assignment_of names.now) (told_by analysed.now)) }
     requires identifiers { AreIdentifiers
-        (is_given (given (listed names.now) (told_by analysed.now))) program.now.root.children }
+        (is_given (given (assignment_of names.now) (told_by analysed.now)))
+        program.now.root.children }
     ensures { IfOk result (λ made. made
-        ≡ with_names_in (given (listed names.now) (told_by analysed.now)) program.now) }
+        ≡ with_names_in (given (assignment_of names.now) (told_by analysed.now)) program.now) }
 {
     let root = renamed_root(alloc, analysed, names, program.root().node())?;
     let source = Text::new(alloc, program.source_text())?;

@@ -3,7 +3,7 @@
 ghost use Rattle.std.specs.Prelude.{◌≡◌, ◌&&◌, ◌||◌, not, option_map};
 ghost use Rattle.std.specs.Str.{chars};
 ghost use Rattle.rename_model.specs.WithName.{is_identifier};
-ghost use Rattle.mangle_model.specs.Assignment.{listed};
+ghost use Rattle.mangle_model.specs.Assignment.{assignment_of};
 ghost use Rattle.mangle_model.specs.Mangling.{all_identifiers};
 ghost use Rattle.mangle_model.specs.Renamed.{given, new_name};
 ghost use Rattle.mangle_model.specs.WithNames.{is_given};
@@ -16,7 +16,8 @@ use semantic_tree::{AstType, Node};
 
 /// The new name of a symbol, if there is one.
 fn new_name(names: &NewNames, symbol: Option<SymbolId>) -> Option<&str>
-    ensures { option_map (λ name. chars name.now) result ≡ new_name (listed names.now) symbol }
+    ensures { option_map (λ name. chars name.now) result
+        ≡ new_name (assignment_of names.now) symbol }
 {
     match symbol {
         Some(symbol) => names.get(symbol),
@@ -27,7 +28,7 @@ fn new_name(names: &NewNames, symbol: Option<SymbolId>) -> Option<&str>
 /// The new name of the symbol that the node declares, else of the one to which it is tied.
 pub fn given<'a>(analysed: &Analysed<'_>, names: &'a NewNames, node: NodeId) -> Option<&'a str>
     ensures { option_map (λ name. chars name.now) result
-        ≡ given (listed names.now) (told_by analysed.now) node }
+        ≡ given (assignment_of names.now) (told_by analysed.now) node }
 {
     match new_name(names, analysed.symbol_at(node)) {
         Some(name) => Some(name),
@@ -37,7 +38,7 @@ pub fn given<'a>(analysed: &Analysed<'_>, names: &'a NewNames, node: NodeId) -> 
 
 /// Whether the node is given a name.
 pub fn is_given(analysed: &Analysed<'_>, names: &NewNames, node: NodeId) -> bool
-    ensures { result ≡ is_given (given (listed names.now) (told_by analysed.now)) node }
+    ensures { result ≡ is_given (given (assignment_of names.now) (told_by analysed.now)) node }
 {
     match given(analysed, names, node) {
         Some(_) => true,
@@ -48,7 +49,7 @@ pub fn is_given(analysed: &Analysed<'_>, names: &NewNames, node: NodeId) -> bool
 /// Whether the node is an identifier, if it is given a name.
 fn is_identifier_if_given(analysed: &Analysed<'_>, names: &NewNames, node: &Node) -> bool
     ensures { result ≡ (not (is_given
-        (given (listed names.now) (told_by analysed.now)) node.now.node_id)
+        (given (assignment_of names.now) (told_by analysed.now)) node.now.node_id)
         || is_identifier node.now.kind) }
 {
     !is_given(analysed, names, node.node_id)
@@ -62,7 +63,7 @@ fn is_identifier_if_given(analysed: &Analysed<'_>, names: &NewNames, node: &Node
 #[tactic(auto, using(semantic_tree::specs::Falls::below))]
 pub fn are_identifiers(analysed: &Analysed<'_>, names: &NewNames, node: &Node) -> bool
     ensures { result ≡ all_identifiers
-        (is_given (given (listed names.now) (told_by analysed.now))) node.now.children }
+        (is_given (given (assignment_of names.now) (told_by analysed.now))) node.now.children }
 {
     for (_, child) in node.children.as_slice() {
         if !is_identifier_if_given(analysed, names, child) {

@@ -7,16 +7,16 @@ ghost use Rattle.semantic_model.specs.Analysis.{analysis_of};
 ghost use Rattle.semantic_model.specs.Moment.{ListsBeginWithOwn};
 ghost use Rattle.rename_model.specs.Same.{first_difference};
 ghost use Rattle.renamer.specs.Told.{told_by};
-ghost use Rattle.mangle_model.specs.Assignment.{listed};
+ghost use Rattle.mangle_model.specs.Assignment.{assignment_of};
 ghost use Rattle.mangle_model.specs.Mangling.{is_no_node, may_change, IsMangled};
 ghost use Rattle.mangle_model.specs.MayMangle.{Options};
 ghost use Rattle.mangle_model.specs.OneNameEach.{each_named, simply_mangled};
 ghost use Rattle.mangle_model.specs.Renamed.{renamed_by};
 ghost use Rattle.mangle_model.specs.Tests.{are_renamed};
-ghost use Rattle.mangle_model.specs.Written.{written};
+ghost use Rattle.mangle_model.specs.Written.{size_written};
 ghost use Rattle.mangler.specs.Alikes.{AreAlike, AreGivable, IsGoodCopy, IsMangling, IsShortMangling, IsSimple};
 ghost use Rattle.mangler.specs.Changing.{options_of};
-ghost use Rattle.mangle_names.specs.Marks.{at};
+ghost use Rattle.mangle_names.specs.Marks.{is_number_marked};
 
 use crate::changing::changing_symbols;
 use crate::comparing::are_renamed;
@@ -64,7 +64,8 @@ fn analysed_by<'a>(analysis: &'a SemanticBuilderReturn<'_>) -> Analysed<'a>
 fn are_alike(names: &NewNames, one: &Analysed<'_>, other: &Analysed<'_>, count: u32) -> bool
     requires one { ListsBeginWithOwn one.now.scoping.now }
     requires other { ListsBeginWithOwn other.now.scoping.now }
-    ensures { result ≡ (are_renamed (listed names.now) one.now.scoping.now other.now.scoping.now
+    ensures { result ≡ (are_renamed
+        (assignment_of names.now) one.now.scoping.now other.now.scoping.now
         && is_no_node (first_difference (told_by one.now) (told_by other.now) 0 count)) }
 {
     are_renamed(names, one.scoping, other.scoping) && first_difference(one, other, count).is_none()
@@ -79,7 +80,8 @@ fn is_alike(
     made: &Program,
 ) -> Result<bool, AllocError>
     requires { told_by analysed.now ≡ analysis_of program.now }
-    ensures { IfOk result (λ same. same ≡ true → AreAlike (listed names.now) program.now made.now) }
+    ensures { IfOk result (λ same. same ≡ true
+        → AreAlike (assignment_of names.now) program.now made.now) }
 {
     let analysis = SemanticBuilder::new().build(alloc, made)?;
     let same = are_alike(
@@ -95,7 +97,8 @@ fn is_alike(
 /// Whether the names of the one program are not longer than those of the other. Names so long that their size is no number
 /// are want of memory.
 fn is_no_longer(one: &Program, other: &Program) -> Result<bool, AllocError>
-    ensures { IfOk result (λ shorter. shorter ≡ nat_le (written one.now) (written other.now)) }
+    ensures { IfOk result (λ shorter. shorter
+        ≡ nat_le (size_written one.now) (size_written other.now)) }
 {
     match (written_size(one), written_size(other)) {
         (Some(one), Some(other)) => Ok(one <= other),
@@ -113,7 +116,7 @@ fn is_good_copy(
 ) -> Result<bool, AllocError>
     requires { told_by analysed.now ≡ analysis_of program.now }
     ensures { IfOk result (λ good. good ≡ true
-        → IsGoodCopy (listed names.now) program.now made.now) }
+        → IsGoodCopy (assignment_of names.now) program.now made.now) }
 {
     let shorter = is_no_longer(made, program)?;
     if !shorter {
@@ -132,7 +135,7 @@ fn good_copy(
 ) -> Result<Option<Program>, AllocError>
     requires { told_by analysed.now ≡ analysis_of program.now }
     ensures { IfOk result (λ found.
-        IfSome found (λ q. (q ≡ made) × IsGoodCopy (listed names.now) program.now q)) }
+        IfSome found (λ q. (q ≡ made) × IsGoodCopy (assignment_of names.now) program.now q)) }
 {
     match is_good_copy(alloc, program, analysed, names, &made) {
         Ok(true) => Ok(Some(made)),
@@ -157,7 +160,8 @@ fn may_be_given(
     names: &NewNames,
 ) -> Result<bool, AllocError>
     requires { told_by analysed.now ≡ analysis_of program.now }
-    ensures { IfOk result (λ good. good ≡ true → AreGivable (at may.now) program.now names.now) }
+    ensures { IfOk result (λ good. good ≡ true
+        → AreGivable (is_number_marked may.now) program.now names.now) }
 {
     let barred = barred_names(alloc, analysed.scoping, may)?;
     if !all_pass(may, &barred, names) {
@@ -176,7 +180,8 @@ fn mangled_with(
     names: &NewNames,
 ) -> Result<Option<Program>, AllocError>
     requires analysis { told_by analysed.now ≡ analysis_of program.now }
-    requires may { (s : ℕ) → at may.now s ≡ may_change (options_of options) program.now s }
+    requires may { (s : ℕ) → is_number_marked may.now s
+        ≡ may_change (options_of options) program.now s }
     ensures { IfOk result (λ found.
         IfSome found (λ q. IsMangled (options_of options) program.now names.now q)) }
 {
@@ -220,7 +225,7 @@ fn shorter_or_itself(
 ) -> Result<Mangled, AllocError>
     requires analysis { told_by analysed.now ≡ analysis_of program.now }
     requires names { names ≡ each_named (options_of options) program.now }
-    requires made { made ≡ renamed_by (listed names) program.now }
+    requires made { made ≡ renamed_by (assignment_of names) program.now }
     ensures { IfOk result (IsSimple (options_of options) program.now) }
 {
     let _root = program.root();
@@ -249,7 +254,8 @@ fn simply_mangled(
     may: &[bool],
 ) -> Result<Mangled, AllocError>
     requires analysis { told_by analysed.now ≡ analysis_of program.now }
-    requires may { (s : ℕ) → at may.now s ≡ may_change (options_of options) program.now s }
+    requires may { (s : ℕ) → is_number_marked may.now s
+        ≡ may_change (options_of options) program.now s }
     ensures { IfOk result (IsSimple (options_of options) program.now) }
 {
     let _root = program.root();
@@ -272,7 +278,8 @@ fn proposal(
     may: &[bool],
 ) -> Result<Option<Mangled>, AllocError>
     requires analysis { told_by analysed.now ≡ analysis_of program.now }
-    requires may { (s : ℕ) → at may.now s ≡ may_change (options_of options) program.now s }
+    requires may { (s : ℕ) → is_number_marked may.now s
+        ≡ may_change (options_of options) program.now s }
     ensures { IfOk result (λ found. IfSome found (IsMangling (options_of options) program.now)) }
 {
     let names = proposed(alloc, program, analysed.scoping, analysed.tables, may)?;
@@ -285,7 +292,7 @@ fn proposal(
 /// The one of two mangled programs whose names are not longer than those of the other, the first if both are.
 fn shorter_of(one: Mangled, other: Mangled) -> Result<Mangled, AllocError>
     ensures { IfOk result (λ m. m
-        ≡ cond (nat_le (written one.program) (written other.program)) one other) }
+        ≡ cond (nat_le (size_written one.program) (size_written other.program)) one other) }
 {
     match is_no_longer(&one.program, &other.program) {
         Ok(true) => {
@@ -346,8 +353,8 @@ pub fn mangle_program(
     options: MangleOptions,
 ) -> Result<Mangled, AllocError>
     ensures mangled { IfOk result (λ m. IsMangled (options_of options) p.now m.names m.program) }
-    ensures length { IfOk result (λ m. written m.program
-        ≤ written (simply_mangled (options_of options) p.now)) }
+    ensures length { IfOk result (λ m. size_written m.program
+        ≤ size_written (simply_mangled (options_of options) p.now)) }
 {
     let analysis = SemanticBuilder::new().build(alloc, p)?;
     let result = mangle_analysed(alloc, options, p, &analysed_by(&analysis));

@@ -2,7 +2,7 @@
 ghost use Rattle.std.specs.Prelude.{◌≡◌, Some, None, false};
 ghost use Rattle.semantic_kinds.specs.declared.role.Role.TheVariants.{Root as root_role};
 ghost use Rattle.mangle_model.specs.MayMangle.{is_property_parameter};
-ghost use Rattle.mangler.specs.Spots.{child_spot, is_element, names_element_or_property, names_property};
+ghost use Rattle.mangler.specs.Spots.{child_spot, is_jsx_element, names_element_or_property, names_property};
 
 use semantic_kinds::{AstType, Mark, Role};
 use semantic_tree::Node;
@@ -75,7 +75,7 @@ impl Spot {
 
     /// Whether the parent is a tag of an element.
     fn is_in_element(self) -> bool
-        ensures { result ≡ is_element self.parent }
+        ensures { result ≡ is_jsx_element self.parent }
     {
         match self.parent {
             Some(parent) => matches!(

@@ -5,7 +5,7 @@ ghost use Rattle.semantic_kinds.specs.declared.role.Role.TheVariants as role;
 ghost use Rattle.semantic_tree.specs.ChildIter.{shown};
 ghost use Rattle.semantic_tree.specs.Views.{children_of};
 ghost use Rattle.rename_model.specs.WithName.{is_identifier};
-ghost use Rattle.mangle_model.specs.Written.{size_of, sizes, key_size, other_size, own_size, written, written_below};
+ghost use Rattle.mangle_model.specs.Written.{size_of, sizes, key_size, other_size, own_size, size_written, size_written_below};
 ghost use Rattle.mangler.specs.Sizes.{other_size_of};
 
 use crate::comparing::is_same_text;
@@ -101,7 +101,7 @@ fn own_size(node: AstKind<'_>) -> Option<u64>
 /// What all nodes below one add.
 #[tactic(auto, using(semantic_tree::specs::Falls::below))]
 fn size_below(node: &Node) -> Option<u64>
-    ensures { IfSome result (λ n. n ≡ written_below node.now.children) }
+    ensures { IfSome result (λ n. n ≡ size_written_below node.now.children) }
 {
     let mut size: u64 = 0;
     for (_, child) in node.children.as_slice() {
@@ -114,7 +114,7 @@ fn size_below(node: &Node) -> Option<u64>
 
 /// How long the names of the program are.
 pub fn written_size(program: &Program) -> Option<u64>
-    ensures { IfSome result (λ n. n ≡ written program.now) }
+    ensures { IfSome result (λ n. n ≡ size_written program.now) }
 {
     size_below(program.root().node())
 }

@@ -6,7 +6,7 @@ use Rattle.report_ends.specs.declared.error.ReportError.TheVariants as error
 use Rattle.program_ends.specs.Calls.{SourceCall, SinkCall, Unread, Untouched}
 use Rattle.program_ends.specs.Completeness.{IsClear, IsNotRefused, IsDoneOrMemory}
 use Rattle.program_ends.specs.Ending.{TellsEnd}
-use Rattle.program_ends.specs.Lines.{tree_line, line_of}
+use Rattle.program_ends.specs.Lines.{tree_line, line_on_error}
 use Rattle.program_ends.specs.Meaning.{Finds, is_answer}
 use Rattle.program_ends.specs.Reads.{Stands, RefusedFor}
 use Rattle.program_ends.specs.Telling.{stop_of}
@@ -36,7 +36,7 @@ module _ (source : SourceCall) (out errs : SinkCall) where
       (ends_answered (IsAsked (Some o)) (IsAsked (Some o)) usage_line (Finds Stands) RefusedFor tree_line (AnswersTo (Some o)) RefusesNone source out errs (end_of result) tt whole (is_answered o source out result whole) untouched)
 
   -- why it isn't is told
-  pub means_stopped : (asked : Option Options) (o : Options) (cause : ReportError) (result : MangleStatus) → asked ≡ Some o → Ends o source out (Err cause) → TellsEnd errs (line_of cause) (stop_of cause) (end_of result) → MeansBy asked source out errs result
+  pub means_stopped : (asked : Option Options) (o : Options) (cause : ReportError) (result : MangleStatus) → asked ≡ Some o → Ends o source out (Err cause) → TellsEnd errs (line_on_error cause) (stop_of cause) (end_of result) → MeansBy asked source out errs result
   means_stopped asked o cause result is why tells =
       subst (λ a. MeansBy a source out errs result) (sym is)
       (ends_told (IsAsked (Some o)) (IsAsked (Some o)) usage_line (Finds Stands) (AnswersTo (Some o)) RefusesNone source out errs cause (end_of result) tt why tells)
@@ -47,7 +47,7 @@ pub answered_done : (o : Options) (source : SourceCall) (out : SinkCall) (result
 answered_done o source out result whole = answer_ends (end_of result) (is_answered o source out result whole)
 
 pub clear_stopped : (o : Options) (source : SourceCall) (out errs : SinkCall) (cause : ReportError) (result : MangleStatus) → IsClear source out → ((input : List ℕ) (program : Tree) → source.left ≡ Some input → Stands input program → IsNotRefused cause) → Ends o source out (Err cause)
-    → TellsEnd errs (line_of cause) (stop_of cause) (end_of result) → IsDoneOrMemory (end_of result)
+    → TellsEnd errs (line_on_error cause) (stop_of cause) (end_of result) → IsDoneOrMemory (end_of result)
 clear_stopped o source out errs cause result clear kept why tells =
     let wanting : cause ≡ error.Memory = clear_reading (Unit {0}) (Finds Stands) (Answers o) source out cause clear (kept clear.input clear.program clear.told clear.stands) why in
     subst IsDoneOrMemory (sym (memory_ends errs cause (end_of result) wanting tells)) tt

@@ -16,7 +16,7 @@ use Rattle.program_ends.specs.Reads.{Stands, RefusedFor}
 use Rattle.mangle_model.specs.Mangling.{IsMangled}
 use Rattle.mangle_model.specs.MayMangle.{Options}
 use Rattle.mangle_model.specs.OneNameEach.{simply_mangled}
-use Rattle.mangle_model.specs.Written.{written}
+use Rattle.mangle_model.specs.Written.{size_written}
 use Rattle.mangler_program.specs.Codes.{end_of}
 use Rattle.mangler_program.specs.Words.{asked_by}
 use Rattle.mangler_program.specs.declared.status.MangleStatus.{MangleStatus}
@@ -35,7 +35,7 @@ pub record IsMangledText (o : Options) (p : Tree) (text : List ℕ) : Type 0 whe
   pub program : Tree
   pub names : List (Option Name)
   pub is_mangled : IsMangled o p names program
-  pub length : written program ≤ written (simply_mangled o p)
+  pub length : size_written program ≤ size_written (simply_mangled o p)
   pub told : text ≡ program_text program
 
 pub record Answers (o : Options) (end : End) (p : Tree) (text : List ℕ) : Type 0 where

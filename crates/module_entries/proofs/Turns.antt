@@ -9,7 +9,7 @@ use Rattle.semantic_tree.specs.declared.view.AstKind.{AstKind}
 use Rattle.module_set.specs.declared.error.LinkError.TheVariants.{NotModule, Twice, TwoExports, UnknownStar}
 use Rattle.module_set.specs.declared.modules.Module.{Module}
 use Rattle.link_model.specs.Exports.{exports, stars}
-use Rattle.link_model.specs.Module.{analysed, all_analysed, module_names, named, source_text}
+use Rattle.link_model.specs.Module.{analysed, all_analysed, module_names, module_named, source_text}
 use Rattle.link_model.specs.Refusal.{is_linkable, first_not_module, first_twice, repeated, unknown, or_later, first_repeated, first_unknown}
 use Rattle.std.specs.Option.{option_map}
 use Rattle.module_entries.specs.Views.{shown_export}
@@ -76,13 +76,13 @@ exports_end before es i h = at_drop_all (λ (xs : List ExportEntry). repeated be
 
 -- ---- star exports of a module
 
-pub star_turn : (names : List Name) (ss : List AstKind) (i : ℕ) (d : AstKind) → i < length ss → is_none (named names (source_text (shown (get_or ss i d)))) ≡ false
+pub star_turn : (names : List Name) (ss : List AstKind) (i : ℕ) (d : AstKind) → i < length ss → is_none (module_named names (source_text (shown (get_or ss i d)))) ≡ false
     → unknown names (map shown (drop i ss)) ≡ unknown names (map shown (drop (i + 1) ss))
 star_turn names ss i d h is =
     at_drop_more (λ (xs : List AstKind). unknown names (map shown xs)) ss i d h
     ∙ ap (λ b. cond b (Some (shown (get_or ss i d)).node_id) (unknown names (map shown (drop (i + 1) ss)))) is
 
-pub star_found : (names : List Name) (ss : List AstKind) (i : ℕ) (d : AstKind) → i < length ss → is_none (named names (source_text (shown (get_or ss i d)))) ≡ true
+pub star_found : (names : List Name) (ss : List AstKind) (i : ℕ) (d : AstKind) → i < length ss → is_none (module_named names (source_text (shown (get_or ss i d)))) ≡ true
     → unknown names (map shown (drop i ss)) ≡ Some (shown (get_or ss i d)).node_id
 star_found names ss i d h is =
     at_drop_more (λ (xs : List AstKind). unknown names (map shown xs)) ss i d h

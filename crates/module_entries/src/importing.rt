@@ -2,7 +2,7 @@
 ghost use Rattle.std.specs.Prelude.{◌≡◌, ◌<◌, Some, None, cond, OnOk};
 ghost use Rattle.link_model.specs.Exports.{is_star};
 ghost use Rattle.link_model.specs.Imports.{import_at};
-ghost use Rattle.module_entries.specs.Entries.{seen, is_specifier, with_import, with_star, entered_at, entered_below};
+ghost use Rattle.module_entries.specs.Entries.{seen, is_specifier, with_import, with_star, with_below, entered_below};
 
 use crate::entries::ModuleEntries;
 use crate::import::ImportEntry;
@@ -59,7 +59,7 @@ impl<'a> ModuleEntries<'a> {
     /// Adds what a node is, a child of this parent.
     fn gather_at(&mut self, parent: &'a Node, node: &'a Node) -> Result<(), AllocError>
         ensures { OnOk result (seen self.new
-            ≡ entered_at (record { parent = parent.now; node = node.now }) (seen self.old)) }
+            ≡ with_below (record { parent = parent.now; node = node.now }) (seen self.old)) }
     {
         self.gather_import(parent, node)?;
         self.gather_star(node)

@@ -1,8 +1,8 @@
 //! The modules that specifiers name.
 ghost use Rattle.std.specs.Prelude.{◌≡◌, ◌≤◌, ℕ, List, length, IfOk, OnOk};
 ghost use Rattle.std.specs.Str.{chars};
-ghost use Rattle.link_model.specs.Module.{named};
-ghost use Rattle.module_entries.specs.Names.{names_of, number_in, noted};
+ghost use Rattle.link_model.specs.Module.{module_named};
+ghost use Rattle.module_entries.specs.Names.{names_of, number_for, name_noted};
 
 use crate::texts::spell;
 use indexmap::IndexMap;
@@ -36,7 +36,8 @@ fn note<'a>(
     number: u32,
 ) -> Result<(), AllocError>
     ensures { OnOk result ((text : List ℕ)
-        → number_in numbers.new text ≡ noted name.now number (number_in numbers.old text) text) }
+        → number_for numbers.new text
+        ≡ name_noted name.now number (number_for numbers.old text) text) }
 {
     if !numbers.contains_key(&name) {
         numbers.insert(name, number)?;
@@ -59,7 +60,7 @@ impl<'a> ModuleNames<'a> {
 
     /// The number of the module that a specifier names, if there is one.
     pub fn number_of(&self, source: &str) -> Option<u32>
-        ensures { result ≡ named self.now (chars source.now) }
+        ensures { result ≡ module_named self.now (chars source.now) }
     {
         spell(source);
         self.numbers.get(&source).copied()

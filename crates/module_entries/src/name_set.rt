@@ -2,7 +2,7 @@
 ghost use Rattle.std.specs.Prelude.{◌≡◌, ◌∷◌, ◌++◌, [], true, map, not, is_none, IfOk, OnOk};
 ghost use Rattle.std.specs.List.{list_any};
 ghost use Rattle.std.specs.Str.{chars, bytes_eq};
-ghost use Rattle.link_model.specs.Module.{named};
+ghost use Rattle.link_model.specs.Module.{module_named};
 ghost use Rattle.tree_json.specs.Views.{characters, IsSpelled};
 ghost use Rattle.tree_json.specs.Written.{Each};
 
@@ -33,7 +33,7 @@ pub fn add_name<'a>(names: &mut IndexSet<&'a str>, name: &'a str) -> Result<bool
 #[tactic(auto, using(tree_json::proofs::Spelled::position_spelled))]
 pub fn lacks(names: &IndexSet<&str>, name: &str) -> bool
     requires { Each IsSpelled names.now.keys }
-    ensures { result ≡ is_none (named (map characters names.now.keys) (chars name.now)) }
+    ensures { result ≡ is_none (module_named (map characters names.now.keys) (chars name.now)) }
 {
     spell(name);
     names.get_index_of(&name).is_none()

@@ -6,7 +6,7 @@ use Rattle.std.proofs.lemmas.List.{drop_more}
 use Rattle.semantic_syntax.specs.Tables.{Name}
 use Rattle.semantic_model.specs.TablesOf.{is_symbol}
 use Rattle.link_model.specs.Imports.{Import}
-use Rattle.link_model.specs.Leads.{End, Ties, import_end, import_of, symbol_of_name}
+use Rattle.link_model.specs.Leads.{LinkEnd, Ties, import_end, import_binding, symbol_of_name}
 use Rattle.link_search.specs.declared.target.Target.{Target}
 use Rattle.link_targets.specs.Denoted.{denoted, AreDenoted, Grows}
 use Rattle.link_targets.proofs.Growth.{denoted_stays, grows_on, grows_same}
@@ -35,10 +35,10 @@ stand_stays names old new grows (Some t) None h = absurd h
 stand_stays names old new grows (Some t) (Some i) h = denoted_stays old new grows t (import_end names i) h
 
 pub leads_stay : (names old new : List Name) (t : Ties) (is : List Import) (imported : ℕ → Option Target) → Grows old new → ImportsLead names old t is imported → ImportsLead names new t is imported
-leads_stay names old new t is imported grows h s = stand_stays names old new grows (imported s) (import_of t s is) (h s)
+leads_stay names old new t is imported grows h s = stand_stays names old new grows (imported s) (import_binding t s is) (h s)
 
 pub leads_by : (names texts : List Name) (t : Ties) (is : List Import) (f g : ℕ → Option Target) → ((s : ℕ) → g s ≡ f s) → ImportsLead names texts t is f → ImportsLead names texts t is g
-leads_by names texts t is f g same h s = subst (λ o. ImportStands names texts o (import_of t s is)) (sym (same s)) (h s)
+leads_by names texts t is f g same h s = subst (λ o. ImportStands names texts o (import_binding t s is)) (sym (same s)) (h s)
 
 -- ---- one more import
 
@@ -58,20 +58,20 @@ module _ (names : List Name) (all : List ImportEntry) (i : ℕ) (e d : ImportEnt
     -- an import that binds no symbol
     none_bound : (later : List Name) (rest : List (ℕ × Target)) → symbol_of_name ties (shown_import e).local ≡ None → BoundStand names later ties (drop (i + 1) all) rest → BoundStand names later ties (drop i all) rest
     none_bound later rest none h s =
-        subst (λ xs. ImportStands names later (lookup (nat_eq s) rest) (import_of ties s xs)) (sym (next_import all i e d within is))
-        (subst (λ o. ImportStands names later (lookup (nat_eq s) rest) (cond (is_symbol s o) (Some (shown_import e)) (import_of ties s (map shown_import (drop (i + 1) all))))) (sym none) (h s))
+        subst (λ xs. ImportStands names later (lookup (nat_eq s) rest) (import_binding ties s xs)) (sym (next_import all i e d within is))
+        (subst (λ o. ImportStands names later (lookup (nat_eq s) rest) (cond (is_symbol s o) (Some (shown_import e)) (import_binding ties s (map shown_import (drop (i + 1) all))))) (sym none) (h s))
 
     -- and one that binds one
     one_bound : (later : List Name) → Grows mid later → (r : ℕ) (rest : List (ℕ × Target)) → symbol_of_name ties (shown_import e).local ≡ Some r → BoundStand names later ties (drop (i + 1) all) rest → BoundStand names later ties (drop i all) ((r, t) ∷ rest)
     one_bound later grows r rest some h s =
-        subst (λ xs. ImportStands names later (lookup (nat_eq s) ((r, t) ∷ rest)) (import_of ties s xs)) (sym (next_import all i e d within is))
-        (subst (λ o. ImportStands names later (lookup (nat_eq s) ((r, t) ∷ rest)) (cond (is_symbol s o) (Some (shown_import e)) (import_of ties s (map shown_import (drop (i + 1) all))))) (sym some)
+        subst (λ xs. ImportStands names later (lookup (nat_eq s) ((r, t) ∷ rest)) (import_binding ties s xs)) (sym (next_import all i e d within is))
+        (subst (λ o. ImportStands names later (lookup (nat_eq s) ((r, t) ∷ rest)) (cond (is_symbol s o) (Some (shown_import e)) (import_binding ties s (map shown_import (drop (i + 1) all))))) (sym some)
         (go (nat_eq s r) (r == s) (same_either_way s r)))
       where
         here : ImportStands names later (Some t) (Some (shown_import e))
         here = denoted_stays mid later grows t (import_end names (shown_import e)) stands
 
-        go : (b c : Bool) → b ≡ c → ImportStands names later (cond b (Some t) (lookup (nat_eq s) rest)) (cond c (Some (shown_import e)) (import_of ties s (map shown_import (drop (i + 1) all))))
+        go : (b c : Bool) → b ≡ c → ImportStands names later (cond b (Some t) (lookup (nat_eq s) rest)) (cond c (Some (shown_import e)) (import_binding ties s (map shown_import (drop (i + 1) all))))
         go true true same = here
         go false false same = h s
         go true false same = absurd cc

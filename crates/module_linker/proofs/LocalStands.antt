@@ -6,7 +6,7 @@ use Rattle.semantic_tree.specs.declared.node.Node.{Node}
 use Rattle.semantic_tree.specs.Views.{is as is_kind}
 use Rattle.link_model.specs.Exports.{by_default}
 use Rattle.link_model.specs.Imports.{Import}
-use Rattle.link_model.specs.Leads.{Ties, import_of, import_or_symbol, symbol_ends, local_ends, declared_ends, exported_ends}
+use Rattle.link_model.specs.Leads.{Ties, import_binding, import_or_symbol, symbol_ends, local_ends, declared_ends, exported_ends}
 use Rattle.link_search.specs.Exports.{if_any}
 use Rattle.link_search.specs.declared.target.Target.{Target}
 use Rattle.link_targets.specs.Denoted.{denoted, AreDenoted}
@@ -23,7 +23,7 @@ module _ (names texts : List Name) (m : ℕ) where
   module _ (t : Ties) (is : List Import) (imported : ℕ → Option Target) (leads : ImportsLead names texts t is imported) where
     tied_stands : (o : Option ℕ) → AreDenoted texts (if_any (tied_target m imported o)) (symbol_ends names m t is o)
     tied_stands None = tt
-    tied_stands (Some s) = (symbol_stands s (imported s) (import_of t s is) (leads s), tt)
+    tied_stands (Some s) = (symbol_stands s (imported s) (import_binding t s is) (leads s), tt)
 
     pub local_stands : (local : Option Node) → AreDenoted texts (if_any (local_target m t imported local)) (local_ends names m t is local)
     local_stands None = tt

@@ -44,7 +44,7 @@ module _ (source : SourceCall) (out errs : SinkCall) (words : List (String Globa
   MeansAt = ends.Means (words ≡ []) usage_line StandsLinked RefusedFor cause_line Answers RefusesNone source out errs
 
   abbrev TellsStop : List ℕ → Stop → Stop → Type 0
-  TellsStop line wanted told = telling.Tells errs line wanted told
+  TellsStop line wanted told = telling.TellsAtEnd errs line wanted told
 
   pub means_words : (result : FindingStatus) → ((words ≡ []) → ⊥) → Unread source → Untouched out → TellsEnd errs usage_line stop.Usage (end_of result) → Means source out errs words result
   means_words result not_asked unread untouched tells = ends_usage (words ≡ []) (words ≡ []) usage_line (Finds StandsLinked) RefusedFor cause_line Answers RefusesNone source out errs (end_of result) not_asked unread untouched tells

@@ -5,7 +5,7 @@ use Rattle.semantic_syntax.specs.Tables.{Name}
 use Rattle.module_set.specs.declared.modules.Module.{Module}
 use Rattle.link_model.specs.Exports.{Export}
 use Rattle.link_model.specs.Imports.{Import, imports}
-use Rattle.link_model.specs.Leads.{End, Ties, import_end, exported_ends}
+use Rattle.link_model.specs.Leads.{LinkEnd, Ties, import_end, exported_ends}
 use Rattle.link_model.specs.Module.{Analysed, analysed, all_analysed}
 use Rattle.link_model.specs.Outcome.{ImportIn, imports_from, all_imports}
 use Rattle.link_search.specs.Exports.{if_any}
@@ -14,9 +14,9 @@ use Rattle.link_search.specs.declared.target.Target.{Target}
 use Rattle.link_targets.specs.Denoted.{AreDenoted, Grows}
 use Rattle.link_targets.specs.Described.{IsExport, AreExports, IsModuleExports, AreModuleExports}
 use Rattle.link_targets.proofs.Growth.{all_stay, grows_on, grows_same}
-use Rattle.module_linker.specs.AnalysedIn.{nodes_of}
+use Rattle.module_linker.specs.AnalysedIn.{import_nodes}
 use Rattle.module_entries.proofs.Continuing.{Continues, continues_with, continues_all, nothing_left}
-use Rattle.module_linker.specs.SetTold.{places_in, place_of, end_of}
+use Rattle.module_linker.specs.SetTold.{places_in, import_place, end_of_import}
 use Rattle.module_linker.specs.declared.set_targets.ImportPlace.{ImportPlace}
 
 -- ---- what stands goes on to stand
@@ -49,28 +49,28 @@ ExportsLeft names texts n ms es = AreModuleExports names texts n (all_analysed m
 
 -- the targets of their imports
 abbrev pub TargetsLeft : (names texts : List Name) → ℕ → List Module → List Target → Type 0
-TargetsLeft names texts n ms ts = AreDenoted texts ts (map (end_of names) (imports_from n (all_analysed ms)))
+TargetsLeft names texts n ms ts = AreDenoted texts ts (map (end_of_import names) (imports_from n (all_analysed ms)))
 
 -- and where these stand
 abbrev pub places_left : ℕ → List Module → List ImportPlace
-places_left n ms = map place_of (imports_from n (all_analysed ms))
+places_left n ms = map import_place (imports_from n (all_analysed ms))
 
 next_module : (all : List Module) (i : ℕ) (m d : Module) → i < length all → m ≡ get_or all i d → drop i all ≡ m ∷ drop (i + 1) all
 next_module all i m d within here = drop_more all i d within ∙ ap (λ (x : Module). x ∷ drop (i + 1) all) (sym here)
 
-denoted_append : (texts : List Name) (ts : List Target) (es : List End) (us : List Target) (fs : List End) → AreDenoted texts ts es → AreDenoted texts us fs → AreDenoted texts (ts ++ us) (es ++ fs)
+denoted_append : (texts : List Name) (ts : List Target) (es : List LinkEnd) (us : List Target) (fs : List LinkEnd) → AreDenoted texts ts es → AreDenoted texts us fs → AreDenoted texts (ts ++ us) (es ++ fs)
 denoted_append texts [] [] us fs h k = k
 denoted_append texts [] (e ∷ es) us fs h k = absurd h
 denoted_append texts (t ∷ ts) [] us fs h k = absurd h
 denoted_append texts (t ∷ ts) (e ∷ es) us fs h k = (h.0, denoted_append texts ts es us fs h.1 k)
 
-ends_split : (names : List Name) (n : ℕ) (is : List Import) (more : List ImportIn) → map (end_of names) (map (λ i. record { number = n; import = i }) is ++ more) ≡ map (import_end names) is ++ map (end_of names) more
+ends_split : (names : List Name) (n : ℕ) (is : List Import) (more : List ImportIn) → map (end_of_import names) (map (λ i. record { number = n; import = i }) is ++ more) ≡ map (import_end names) is ++ map (end_of_import names) more
 ends_split names n [] more = refl
 ends_split names n (i ∷ is) more = ap (λ es. import_end names i ∷ es) (ends_split names n is more)
 
-places_split : (n : ℕ) (is : List Import) (more : List ImportIn) → map place_of (map (λ i. record { number = n; import = i }) is ++ more) ≡ places_in n (nodes_of is) ++ map place_of more
+places_split : (n : ℕ) (is : List Import) (more : List ImportIn) → map import_place (map (λ i. record { number = n; import = i }) is ++ more) ≡ places_in n (import_nodes is) ++ map import_place more
 places_split n [] more = refl
-places_split n (i ∷ is) more = ap (λ ps. place_of (record { number = n; import = i }) ∷ ps) (places_split n is more)
+places_split n (i ∷ is) more = ap (λ ps. import_place (record { number = n; import = i }) ∷ ps) (places_split n is more)
 
 module _ (names : List Name) (all : List Module) (i : ℕ) (m d : Module) (within : i < length all) (here : m ≡ get_or all i d) (old mid : List Name) (grown : Grows old mid) where
   pub exports_more : (e : ModuleExports) → IsModuleExports names mid i (analysed m) e → (done new : List ModuleExports) → new ≡ done ++ e ∷ []
@@ -88,10 +88,10 @@ module _ (names : List Name) (all : List Module) (i : ℕ) (m d : Module) (withi
       continues_with (TargetsLeft names later i (drop i all)) (TargetsLeft names later (i + 1) (drop (i + 1) all)) (TargetsLeft names later 0 all) done new ts pushed
       (λ rest h. subst (λ ms. TargetsLeft names later i ms (ts ++ rest)) (sym (next_module all i m d within here))
       (subst (AreDenoted later (ts ++ rest)) (sym (ends_split names i (imports (analysed m)) (imports_from (i + 1) (all_analysed (drop (i + 1) all)))))
-      (denoted_append later ts (map (import_end names) (imports (analysed m))) rest (map (end_of names) (imports_from (i + 1) (all_analysed (drop (i + 1) all)))) (all_stay mid later grows ts (map (import_end names) (imports (analysed m))) told) h)))
+      (denoted_append later ts (map (import_end names) (imports (analysed m))) rest (map (end_of_import names) (imports_from (i + 1) (all_analysed (drop (i + 1) all)))) (all_stay mid later grows ts (map (import_end names) (imports (analysed m))) told) h)))
       (goes later (grows_on old mid later grown grows))
 
-pub places_more : (all : List Module) (i : ℕ) (m d : Module) → i < length all → m ≡ get_or all i d → (done new : List ImportPlace) (nodes : List ℕ) → nodes ≡ nodes_of (imports (analysed m)) → new ≡ done ++ places_in i nodes
+pub places_more : (all : List Module) (i : ℕ) (m d : Module) → i < length all → m ≡ get_or all i d → (done new : List ImportPlace) (nodes : List ℕ) → nodes ≡ import_nodes (imports (analysed m)) → new ≡ done ++ places_in i nodes
     → done ++ places_left i (drop i all) ≡ places_left 0 all → new ++ places_left (i + 1) (drop (i + 1) all) ≡ places_left 0 all
 places_more all i m d within here done new nodes told pushed h =
     let later : List ImportPlace = places_left (i + 1) (drop (i + 1) all) in

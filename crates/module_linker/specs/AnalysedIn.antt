@@ -24,5 +24,5 @@ pub record AreEntriesOf (x : Analysed) (e : ModuleEntries) : Type 0 where
   pub stars : map shown e.stars.items ≡ stars x
 
 -- the nodes of imports
-abbrev pub nodes_of : List Import → List ℕ
-nodes_of is = map (λ (i : Import). i.node) is
+abbrev pub import_nodes : List Import → List ℕ
+import_nodes is = map (λ (i : Import). i.node) is

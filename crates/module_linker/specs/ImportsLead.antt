@@ -2,7 +2,7 @@
 use Rattle.std.specs.Prelude.{◌≡◌, ℕ, List, [], ◌∷◌, ◌++◌, Option, Some, None}
 use Rattle.semantic_syntax.specs.Tables.{Name}
 use Rattle.link_model.specs.Imports.{Import}
-use Rattle.link_model.specs.Leads.{Ties, import_end, import_of, symbol_of_name}
+use Rattle.link_model.specs.Leads.{Ties, import_end, import_binding, symbol_of_name}
 use Rattle.link_search.specs.declared.target.Target.{Target}
 use Rattle.link_targets.specs.Denoted.{denoted}
 use Rattle.module_linker.specs.declared.import_targets.ImportTargets.{ImportTargets}
@@ -15,7 +15,7 @@ ImportStands names texts _ _ = ⊥
 
 -- the target of each symbol stands for where the first import leads that binds it
 abbrev pub ImportsLead : (names texts : List Name) → Ties → List Import → (ℕ → Option Target) → Type 0
-ImportsLead names texts t is imported = (s : ℕ) → ImportStands names texts (imported s) (import_of t s is)
+ImportsLead names texts t is imported = (s : ℕ) → ImportStands names texts (imported s) (import_binding t s is)
 
 -- with the target of an import, if it binds a symbol
 abbrev pub with_bound : List (ℕ × Target) → Option ℕ → Target → List (ℕ × Target)

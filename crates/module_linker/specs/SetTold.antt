@@ -2,7 +2,7 @@
 use Rattle.std.specs.Prelude.{◌≡◌, ℕ, List, map}
 use Rattle.semantic_syntax.specs.Tables.{Name}
 use Rattle.module_set.specs.declared.modules.Module.{Module}
-use Rattle.link_model.specs.Leads.{End, import_end}
+use Rattle.link_model.specs.Leads.{LinkEnd, import_end}
 use Rattle.link_model.specs.Module.{all_analysed}
 use Rattle.link_model.specs.Outcome.{ImportIn, all_imports}
 use Rattle.link_search.specs.Ends.{AreApart}
@@ -17,23 +17,23 @@ use Rattle.module_linker.specs.declared.set_targets.SetTargets.{SetTargets}
 abbrev pub places_in : ℕ → List ℕ → List ImportPlace
 places_in m nodes = map (λ n. record { number = m; node = n }) nodes
 
-abbrev pub place_of : ImportIn → ImportPlace
-place_of i = record { number = i.number; node = i.import.node }
+abbrev pub import_place : ImportIn → ImportPlace
+import_place i = record { number = i.number; node = i.import.node }
 
 -- where an import leads
-abbrev pub end_of : List Name → ImportIn → End
-end_of names i = import_end names i.import
+abbrev pub end_of_import : List Name → ImportIn → LinkEnd
+end_of_import names i = import_end names i.import
 
 -- the targets stand for where the exports and imports of the modules lead
 pub record AreSetTargets (names texts : List Name) (modules : List Module) (made : SetTargets) : Type 0 where
   pub exports : AreModuleExports names texts 0 (all_analysed modules) made.exports.items
-  pub places : made.places.items ≡ map place_of (all_imports (all_analysed modules))
-  pub targets : AreDenoted texts made.targets.items (map (end_of names) (all_imports (all_analysed modules)))
+  pub places : made.places.items ≡ map import_place (all_imports (all_analysed modules))
+  pub targets : AreDenoted texts made.targets.items (map (end_of_import names) (all_imports (all_analysed modules)))
 
 -- the modules are told in numbers of texts
 pub record IsDescribed (modules : List Module) (made : Described) : Type 0 where
   pub texts : List Name
   pub apart : AreApart texts
   pub exports : AreSetExports texts (all_analysed modules) made.exports
-  pub places : made.places.items ≡ map place_of (all_imports (all_analysed modules))
-  pub targets : AreDenoted texts made.targets.items (map (end_of (names_of modules)) (all_imports (all_analysed modules)))
+  pub places : made.places.items ≡ map import_place (all_imports (all_analysed modules))
+  pub targets : AreDenoted texts made.targets.items (map (end_of_import (names_of modules)) (all_imports (all_analysed modules)))

@@ -1,6 +1,6 @@
 -- How the line on why no links are written is told.
 use Rattle.std.specs.Prelude.{ℕ, List}
-use Rattle.program_ends.specs.Lines.{line_of}
+use Rattle.program_ends.specs.Lines.{line_on_error}
 use Rattle.program_ends.specs.Telling.{stop_of}
 use Rattle.program_ends.specs.declared.stops.Stop.{Stop}
 use Rattle.program_ends.specs.declared.stops.Stop.TheVariants as stop
@@ -18,7 +18,7 @@ stop_of_refusal _ = stop.Tree
 -- the line on why no links are written
 abbrev pub failure_line : LinkFailure → List ℕ
 failure_line (Refused e) = cause_line e
-failure_line (Stopped e) = line_of e
+failure_line (Stopped e) = line_on_error e
 
 abbrev pub failure_stop : LinkFailure → Stop
 failure_stop (Refused e) = stop_of_refusal e

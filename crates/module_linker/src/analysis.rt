@@ -5,7 +5,7 @@ ghost use Rattle.link_model.specs.Leads.{import_end};
 ghost use Rattle.link_model.specs.Module.{analysed};
 ghost use Rattle.link_targets.specs.Denoted.{AreDenoted, Grows};
 ghost use Rattle.link_targets.specs.Described.{IsModuleExports};
-ghost use Rattle.module_linker.specs.AnalysedIn.{nodes_of};
+ghost use Rattle.module_linker.specs.AnalysedIn.{import_nodes};
 
 use crate::analysed_module::AnalysedModule;
 use crate::module_targets::{ModuleTargets, targets_of};
@@ -26,7 +26,7 @@ pub(crate) fn module_targets<'a>(
 ) -> Result<ModuleTargets, AllocError>
     ensures grows { OnOk result (Grows texts.old texts.new) }
     ensures nodes { IfOk result
-        (λ made. made.nodes.items ≡ nodes_of (imports (analysed «module».now))) }
+        (λ made. made.nodes.items ≡ import_nodes (imports (analysed «module».now))) }
     ensures targets { IfOk result
         (λ made. AreDenoted texts.new made.targets.items
         (map (import_end names.now) (imports (analysed «module».now)))) }

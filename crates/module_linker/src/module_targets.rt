@@ -5,7 +5,7 @@ ghost use Rattle.link_model.specs.Leads.{import_end};
 ghost use Rattle.link_targets.specs.Denoted.{AreDenoted, Grows};
 ghost use Rattle.link_targets.specs.Described.{IsModuleExports};
 ghost use Rattle.module_entries.specs.Views.{shown_import};
-ghost use Rattle.module_linker.specs.AnalysedIn.{analysed_in, AreEntriesOf, nodes_of};
+ghost use Rattle.module_linker.specs.AnalysedIn.{analysed_in, AreEntriesOf, import_nodes};
 ghost use Rattle.module_linker.specs.ScopeOf.{ScopeLeads};
 
 use crate::analysed_module::AnalysedModule;
@@ -32,7 +32,7 @@ pub struct ModuleTargets {
 
 /// The import specifiers.
 fn nodes_of(alloc: Global, imports: &[ImportEntry<'_>]) -> Result<Vec<NodeId>, AllocError>
-    ensures { IfOk result (λ nodes. nodes.items ≡ nodes_of (map shown_import imports.now)) }
+    ensures { IfOk result (λ nodes. nodes.items ≡ import_nodes (map shown_import imports.now)) }
 {
     let mut nodes = Vec::new(alloc);
     for import in imports {
@@ -76,7 +76,7 @@ fn entry_targets<'a>(
     requires { AreEntriesOf (analysed_in analysed.now) entries.now }
     ensures grows { OnOk result (Grows texts.old texts.new) }
     ensures nodes { IfOk result
-        (λ made. made.nodes.items ≡ nodes_of (imports (analysed_in analysed.now))) }
+        (λ made. made.nodes.items ≡ import_nodes (imports (analysed_in analysed.now))) }
     ensures targets { IfOk result
         (λ made. AreDenoted texts.new made.targets.items
         (map (import_end names.now) (imports (analysed_in analysed.now)))) }
@@ -111,7 +111,7 @@ pub fn targets_of<'a>(
 ) -> Result<ModuleTargets, AllocError>
     ensures grows { OnOk result (Grows texts.old texts.new) }
     ensures nodes { IfOk result
-        (λ made. made.nodes.items ≡ nodes_of (imports (analysed_in analysed.now))) }
+        (λ made. made.nodes.items ≡ import_nodes (imports (analysed_in analysed.now))) }
     ensures targets { IfOk result
         (λ made. AreDenoted texts.new made.targets.items
         (map (import_end names.now) (imports (analysed_in analysed.now)))) }

@@ -3,9 +3,9 @@
 ghost use Rattle.std.specs.Prelude.{◌≡◌, ◌≤◌, length, map, ok_or, option_map, IfOk, IfSome};
 ghost use Rattle.serde_json.specs.View.{view as data_of, items_view};
 ghost use Rattle.module_set.specs.declared.error.LinkError.TheVariants.{Shape};
-ghost use Rattle.module_set.specs.Views.{written};
+ghost use Rattle.module_set.specs.Views.{module_seen};
 ghost use Rattle.module_set.specs.Outcome.{Gives};
-ghost use Rattle.module_set.specs.SetForm.{written_in, list_in, set_of_data};
+ghost use Rattle.module_set.specs.SetForm.{module_in, list_in, set_of_data};
 
 use crate::error::LinkError;
 use crate::modules::MODULE_LIMIT;
@@ -22,7 +22,7 @@ pub(crate) struct ModuleText<'a> {
 /// The module that a value says, if it is an object with a name and a tree alone.
 #[tactic(auto, using(tree_json::proofs::Members::members_len_view), unfolding(tree_json::specs::Top::has_members, tree_json::specs::Top::text_at, tree_json::specs::Top::word_at, tree_json::specs::Form::text_in))]
 fn module_of(value: &Value) -> Option<ModuleText<'_>>
-    ensures { option_map written result ≡ written_in (data_of value.now) }
+    ensures { option_map module_seen result ≡ module_in (data_of value.now) }
 {
     if value.as_object()?.len() != 2 {
         return None;
@@ -52,7 +52,7 @@ fn list_of(value: &Value) -> Option<&[Value]>
 
 /// The modules that a value says, each as its text.
 pub(crate) fn texts_of(alloc: Global, value: &Value) -> Result<Vec<ModuleText<'_>>, LinkError>
-    ensures said { Gives (λ texts. map written texts.items) result
+    ensures said { Gives (λ texts. map module_seen texts.items) result
         (ok_or (set_of_data (data_of value.now)) Shape) }
     ensures few { IfOk result (λ texts. length texts.items ≤ 4294967294) }
 {

@@ -4,7 +4,7 @@ ghost use Rattle.serde_json.specs.View.{view as data_of};
 ghost use Rattle.tree_json.specs.Reading.{value_in};
 ghost use Rattle.module_set.specs.declared.error.LinkError.TheVariants.{NotJson};
 ghost use Rattle.module_set.specs.declared.modules.Module.{Module};
-ghost use Rattle.module_set.specs.Views.{written};
+ghost use Rattle.module_set.specs.Views.{module_seen};
 ghost use Rattle.module_set.specs.Outcome.{Gives, IsWantOfMemory, IsReadAs};
 ghost use Rattle.module_set.specs.Reading.{IsRead, AreRead, told_at, IsRefusedAt, RefusedFrom, StandsForSet, RefusesSet};
 
@@ -60,10 +60,10 @@ fn refusal(number: u32, cause: TreeError) -> LinkError
 
 /// The module with this number in a set.
 fn read_module(alloc: Global, number: u32, text: &ModuleText<'_>) -> Result<Module, LinkError>
-    ensures read { IfOk result (λ m. IsRead (written text.now) m) }
+    ensures read { IfOk result (λ m. IsRead (module_seen text.now) m) }
     ensures refused { IfErr result
-        (λ e. ¬ IsWantOfMemory e → IsRefusedAt number (written text.now) e) }
-    ensures complete { (m : Module) → IsRead (written text.now) m → IsReadAs m result }
+        (λ e. ¬ IsWantOfMemory e → IsRefusedAt number (module_seen text.now) e) }
+    ensures complete { (m : Module) → IsRead (module_seen text.now) m → IsReadAs m result }
 {
     let name = Text::new(alloc, text.name)?;
     match read_program(alloc, text.tree.as_bytes()) {
@@ -75,10 +75,10 @@ fn read_module(alloc: Global, number: u32, text: &ModuleText<'_>) -> Result<Modu
 /// The modules, in order, or why the first isn't read that isn't.
 fn modules_of(alloc: Global, texts: &[ModuleText<'_>]) -> Result<Modules, LinkError>
     requires { length texts.now ≤ 4294967294 }
-    ensures read { IfOk result (λ modules. AreRead (map written texts.now) modules) }
+    ensures read { IfOk result (λ modules. AreRead (map module_seen texts.now) modules) }
     ensures refused { IfErr result
-        (λ e. ¬ IsWantOfMemory e → RefusedFrom 0 (map written texts.now) e) }
-    ensures complete { (ms : List Module) → AreRead (map written texts.now) ms
+        (λ e. ¬ IsWantOfMemory e → RefusedFrom 0 (map module_seen texts.now) e) }
+    ensures complete { (ms : List Module) → AreRead (map module_seen texts.now) ms
         → IsReadAs ms result }
 {
     let mut list = Vec::new(alloc);

@@ -29,9 +29,9 @@ use Rattle.semantic_model.proofs.form.Shape.{has_form}
 use Rattle.semantic_model.proofs.fits.TablesFit.{tables_fit}
 use Rattle.semantic_model.specs.Analysis.{Analysis, analysis_of, symbol_at}
 use Rattle.name_lint.specs.Uses.{owner_of, owner_on, owners, is_counted, used_symbol, use_of, uses_by}
-use Rattle.name_lint.specs.Live.{is_sure, sure_from, free_use, owned_use, exports}
+use Rattle.name_lint.specs.Live.{is_sure, sure_from, free_use, owned_use, directly_exported}
 use Rattle.name_lint.specs.Undeclared.{reference_names}
-use Rattle.name_lint.specs.Within.{AreSymbols}
+use Rattle.name_lint.specs.Within.{OwnersAreSymbols}
 
 some_same : (x y : ℕ) → ◌≡◌ {A = Option ℕ} (Some x) (Some y) → x ≡ y
 some_same x y e = cc
@@ -191,16 +191,16 @@ module _ (p : Tree) (faultless : first_fault p ≡ None) where
           let named : HasName (run start (events (steps p))).symbols m.symbol m.declaration.naming.name = (sound_program p form).has_name m i in
           slice_get_within (run start (events (steps p))).symbols m.symbol named.symbol named.is_there
 
-  pub are_symbols : AreSymbols (tables_of p) (symbol_at (analysis_of p)) (exports (steps p)) (owners (analysis_of p) (steps p))
+  pub are_symbols : OwnersAreSymbols (tables_of p) (symbol_at (analysis_of p)) (directly_exported (steps p)) (owners (analysis_of p) (steps p))
   are_symbols =
       let ties : TiesBelow count (tables_of p).references = ties_below count (tables_of p).references tie_below in
       record {
         references = owners_count (analysis_of p) (steps p) ∙ as_many;
-        seeds = All-append (λ s. s < count) (sure_from (tables_of p) 0 (tables_of p).symbols ++ filter_map (symbol_at (analysis_of p)) (exports (steps p)))
+        seeds = All-append (λ s. s < count) (sure_from (tables_of p) 0 (tables_of p).symbols ++ filter_map (symbol_at (analysis_of p)) (directly_exported (steps p)))
             (filter_map free_use (uses_by (owners (analysis_of p) (steps p)) (tables_of p).references))
-            (All-append (λ s. s < count) (sure_from (tables_of p) 0 (tables_of p).symbols) (filter_map (symbol_at (analysis_of p)) (exports (steps p)))
+            (All-append (λ s. s < count) (sure_from (tables_of p) 0 (tables_of p).symbols) (filter_map (symbol_at (analysis_of p)) (directly_exported (steps p)))
             (sure_below count (tables_of p) 0 (tables_of p).symbols (omega arith))
-            (declared_below count (symbol_at (analysis_of p)) declared_symbol (exports (steps p))))
+            (declared_below count (symbol_at (analysis_of p)) declared_symbol (directly_exported (steps p))))
             (free_below count (owners (analysis_of p) (steps p)) (tables_of p).references ties);
         owning = owners_below count (owners (analysis_of p) (steps p)) (tables_of p).references (steps_below count (analysis_of p) declared_symbol (steps p));
         used = seconds_below count (owners (analysis_of p) (steps p)) (tables_of p).references ties;

@@ -11,7 +11,7 @@ use Rattle.indexmap.specs.IndexSet.{insert_key}
 use Rattle.semantic_syntax.proofs.SameTexts.{same_texts}
 use Rattle.semantic_syntax.specs.Tables.{Name}
 use Rattle.semantic_syntax.proofs.Truth.{or_false}
-use Rattle.name_lint.specs.Known.{names_of}
+use Rattle.name_lint.specs.Known.{known_names}
 use Rattle.name_lint.specs.Undeclared.{is_known}
 
 -- one or the other, in any order
@@ -79,17 +79,17 @@ module _ {Z : Type 0} where
 -- the next word
 pub word_turn : (words : List (String Global)) (i : ℕ) (word : String Global) → i < length words → word ≡ get_or words i word → (known new : List Name) (name : Name)
     → is_known new name ≡ (bytes_eq name (chars (string_bytes word)) || is_known known name)
-    → (is_known known name || is_known (names_of (drop i words)) name) ≡ is_known (names_of words) name
-    → (is_known new name || is_known (names_of (drop (i + 1) words)) name) ≡ is_known (names_of words) name
+    → (is_known known name || is_known (known_names (drop i words)) name) ≡ is_known (known_names words) name
+    → (is_known new name || is_known (known_names (drop (i + 1) words)) name) ≡ is_known (known_names words) name
 word_turn words i word within is known new name grown h =
-    ap (λ b. b || is_known (names_of (drop (i + 1) words)) name) grown
-    ∙ either_swaps (bytes_eq name (chars (string_bytes word))) (is_known known name) (is_known (names_of (drop (i + 1) words)) name)
-    ∙ ap (λ (w : String Global). is_known known name || (bytes_eq name (chars (string_bytes w)) || is_known (names_of (drop (i + 1) words)) name)) is
-    ∙ ap (λ b. is_known known name || b) (sym (at_drop_more (λ (ws : List (String Global)). is_known (names_of ws) name) words i word within))
+    ap (λ b. b || is_known (known_names (drop (i + 1) words)) name) grown
+    ∙ either_swaps (bytes_eq name (chars (string_bytes word))) (is_known known name) (is_known (known_names (drop (i + 1) words)) name)
+    ∙ ap (λ (w : String Global). is_known known name || (bytes_eq name (chars (string_bytes w)) || is_known (known_names (drop (i + 1) words)) name)) is
+    ∙ ap (λ b. is_known known name || b) (sym (at_drop_more (λ (ws : List (String Global)). is_known (known_names ws) name) words i word within))
     ∙ h
 
 -- no word is left
 pub words_end : (words : List (String Global)) (i : ℕ) → length words ≤ i → (known : List Name) (name : Name)
-    → (is_known known name || is_known (names_of (drop i words)) name) ≡ is_known (names_of words) name → is_known known name ≡ is_known (names_of words) name
+    → (is_known known name || is_known (known_names (drop i words)) name) ≡ is_known (known_names words) name → is_known known name ≡ is_known (known_names words) name
 words_end words i within known name h =
-    sym (or_false (is_known known name)) ∙ ap (λ b. is_known known name || b) (sym (at_drop_all (λ (ws : List (String Global)). is_known (names_of ws) name) words i within)) ∙ h
+    sym (or_false (is_known known name)) ∙ ap (λ b. is_known known name || b) (sym (at_drop_all (λ (ws : List (String Global)). is_known (known_names ws) name) words i within)) ∙ h

@@ -10,7 +10,7 @@ use Rattle.semantic_model.specs.Step.{steps}
 use Rattle.semantic_model.specs.TablesOf.{tables_of}
 use Rattle.name_lint.specs.Gathered.{text_of, span_of}
 use Rattle.name_lint.specs.Undeclared.{reference_names, reference_spans}
-use Rattle.name_lint.specs.Lines.{name_line, no_span, undeclared_line, name_lines, lines_of}
+use Rattle.name_lint.specs.Lines.{name_line, no_span, undeclared_line, name_lines, finding_lines}
 
 -- the line of a reference, by its node
 pub reference_told : (nodes : List AstKind) (reference number place : ℕ) (node : AstKind) (name : List ℕ) (span : Span) → number ≡ reference → place ≡ reference → reference < length nodes → node ≡ get_or nodes place node → name ≡ encode_utf8_all (text_of node)
@@ -23,7 +23,7 @@ reference_told nodes reference number place node name span numbered placed insid
 
 -- the lines of a program, by its tables and by what is known of its references
 pub lines_told : (p : Tree) (t : Tables) (names : List Name) (spans : List Span) (unused found undeclared : List ℕ) → t ≡ tables_of p → names ≡ reference_names (steps p) → spans ≡ reference_spans (steps p) → found ≡ undeclared
-    → name_lines t names spans unused found ≡ lines_of p unused undeclared
+    → name_lines t names spans unused found ≡ finding_lines p unused undeclared
 lines_told p t names spans unused found undeclared is_tables are_names are_spans same =
     ap (λ (x : Tables). name_lines x names spans unused found) is_tables
     ∙ ap (λ (xs : List Name). name_lines (tables_of p) xs spans unused found) are_names

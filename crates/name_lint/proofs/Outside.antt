@@ -2,7 +2,7 @@
 use Rattle.std.proofs.Common.{◌≡◌, ◌<◌, ◌+◌, ℕ, zero, suc, List, [], ◌∷◌, Bool, true, false, cond, length, refl, sym, subst, inl, inr, arith}
 use Rattle.reachability.specs.Rows.{Among}
 use Rattle.reachability.specs.Marked.{is_marked}
-use Rattle.name_lint.specs.Live.{IsRising, AreOutside, unmarked_from}
+use Rattle.name_lint.specs.Live.{IsRising, AreOutsideSet, unmarked_from}
 
 pub record Unmarked (k : ℕ) (marks : List Bool) (x : ℕ) : Type 0 where
   pub place : ℕ
@@ -61,5 +61,5 @@ module _ (marks : List Bool) (Set : ℕ → Type 0) (sound : (s : ℕ) → is_ma
       by true e = absurd (h.1 (sound x e))
       by false e = subst (λ n. Among n (unmarked_from 0 marks)) (omega arith) (all_listed 0 marks x h.0 e)
 
-  pub outside : (xs : List ℕ) → xs ≡ unmarked_from 0 marks → AreOutside (length marks) Set xs
-  outside xs e = subst (AreOutside (length marks) Set) (sym e) (record { rises = rises 0 marks; exact = λ x. (out x, back x) })
+  pub outside : (xs : List ℕ) → xs ≡ unmarked_from 0 marks → AreOutsideSet (length marks) Set xs
+  outside xs e = subst (AreOutsideSet (length marks) Set) (sym e) (record { rises = rises 0 marks; exact = λ x. (out x, back x) })

@@ -15,7 +15,7 @@ use Rattle.semantic_model.specs.Cursor.{on_entering}
 use Rattle.semantic_model.specs.Step.{Step, entering, opening, leaving, header_ending, closing, opening_at, ending_after, opening_last, steps_below, root_place, steps}
 use Rattle.semantic_model.proofs.steps.Turn.{Turn, turn_at}
 use Rattle.semantic_model.specs.Analysis.{Analysis, symbol_at}
-use Rattle.name_lint.specs.Uses.{own_name, or_further, owner_on, owner_of, owners}
+use Rattle.name_lint.specs.Uses.{declared_name, or_further, owner_on, owner_of, owners}
 use Rattle.name_lint.specs.Undeclared.{reference_names, reference_spans}
 use Rattle.name_lint.specs.Gathered.{Gathered, nothing_gathered, symbol_or, owner_inside, gathered_at, gathered_below, gathered_from, gathered_by}
 
@@ -77,7 +77,7 @@ module _ (a : Analysis) where
 
   -- the owner of what stands in a node
   owner_below : (node : Node) (path : List Node) → owner_of a (node ∷ path) ≡ owner_inside (symbol_at a) (owner_of a path) node
-  owner_below node path = by (own_name node)
+  owner_below node path = by (declared_name node)
     where
       by : (o : Option Node) → option_and_then (λ id. symbol_at a id.node_id) (or_further o (owner_on path)) ≡ symbol_or (symbol_at a) (owner_of a path) o
       by None = refl

@@ -14,11 +14,11 @@ use Rattle.semantic_model.specs.Step.{steps}
 use Rattle.semantic_model.specs.TablesOf.{tables_of}
 use Rattle.semantic.specs.Shown.{entries}
 use Rattle.semantic_model.specs.Analysis.{analysis_of, symbol_at}
-use Rattle.name_lint.specs.Gathered.{Gathered, nothing_gathered, symbol_in, text_of, gathered_from, gathered_by}
-use Rattle.name_lint.specs.Live.{AreOutside, AreUnused, exports}
+use Rattle.name_lint.specs.Gathered.{Gathered, nothing_gathered, symbol_at_node, text_of, gathered_from, gathered_by}
+use Rattle.name_lint.specs.Live.{AreOutsideSet, AreUnused, directly_exported}
 use Rattle.name_lint.specs.Undeclared.{undeclared_from, undeclared, reference_names}
 use Rattle.name_lint.specs.Uses.{owners}
-use Rattle.name_lint.specs.Within.{LiveIn, AreSymbols}
+use Rattle.name_lint.specs.Within.{LiveIn, OwnersAreSymbols}
 use Rattle.name_lint.proofs.Passed.{passed}
 use Rattle.name_lint.proofs.Bounded.{names_count, are_symbols}
 
@@ -34,27 +34,27 @@ numbers_told [] node = refl
 numbers_told (b ∷ bs) node = rw (flip node b.node) (ap (λ o. cond (b.node == node) (Some b.number) o) (numbers_told bs node))
 
 module _ (p : Tree) (nodes : NodeEntries) (is_nodes : nodes.symbols ≡ entries (node_tables (steps p)).symbols) where
-  symbols_told : symbol_in nodes ≡ symbol_at (analysis_of p)
+  symbols_told : symbol_at_node nodes ≡ symbol_at (analysis_of p)
   symbols_told = λ i node. (ap (lookup (nat_eq node)) is_nodes ∙ numbers_told (node_tables (steps p)).symbols node) i
 
   -- the pass gathers what the definitions take from the program
-  pub pass_told : (g : Gathered) → g ≡ gathered_from (symbol_in nodes) None p.root nothing_gathered → g ≡ gathered_by (analysis_of p) (steps p)
+  pub pass_told : (g : Gathered) → g ≡ gathered_from (symbol_at_node nodes) None p.root nothing_gathered → g ≡ gathered_by (analysis_of p) (steps p)
   pass_told g e = e ∙ ap (λ (f : ℕ → Option ℕ). gathered_from f None p.root nothing_gathered) symbols_told ∙ passed (analysis_of p) p
 
-  module _ (t : Tables) (is_tables : t ≡ tables_of p) (exported : List ℕ) (os : List (Option ℕ)) (is_exports : exported ≡ exports (steps p)) (is_owners : os ≡ owners (analysis_of p) (steps p)) where
-    pub all_symbols : first_fault p ≡ None → AreSymbols t (symbol_in nodes) exported os
+  module _ (t : Tables) (is_tables : t ≡ tables_of p) (exported : List ℕ) (os : List (Option ℕ)) (is_exports : exported ≡ directly_exported (steps p)) (is_owners : os ≡ owners (analysis_of p) (steps p)) where
+    pub all_symbols : first_fault p ≡ None → OwnersAreSymbols t (symbol_at_node nodes) exported os
     all_symbols h =
-        subst (λ (x : Tables). AreSymbols x (symbol_in nodes) exported os) (sym is_tables)
-        (subst (λ (f : ℕ → Option ℕ). AreSymbols (tables_of p) f exported os) (sym symbols_told)
-        (subst (λ (x : List ℕ). AreSymbols (tables_of p) (symbol_at (analysis_of p)) x os) (sym is_exports)
-        (subst (λ (x : List (Option ℕ)). AreSymbols (tables_of p) (symbol_at (analysis_of p)) (exports (steps p)) x) (sym is_owners) (are_symbols p h))))
+        subst (λ (x : Tables). OwnersAreSymbols x (symbol_at_node nodes) exported os) (sym is_tables)
+        (subst (λ (f : ℕ → Option ℕ). OwnersAreSymbols (tables_of p) f exported os) (sym symbols_told)
+        (subst (λ (x : List ℕ). OwnersAreSymbols (tables_of p) (symbol_at (analysis_of p)) x os) (sym is_exports)
+        (subst (λ (x : List (Option ℕ)). OwnersAreSymbols (tables_of p) (symbol_at (analysis_of p)) (directly_exported (steps p)) x) (sym is_owners) (are_symbols p h))))
 
-    pub unused_told : (xs : List ℕ) → AreOutside (length t.symbols) (LiveIn t (symbol_in nodes) exported os) xs → AreUnused p xs
+    pub unused_told : (xs : List ℕ) → AreOutsideSet (length t.symbols) (LiveIn t (symbol_at_node nodes) exported os) xs → AreUnused p xs
     unused_told xs h =
-        subst (λ (x : List (Option ℕ)). AreOutside (length (tables_of p).symbols) (LiveIn (tables_of p) (symbol_at (analysis_of p)) (exports (steps p)) x) xs) is_owners
-        (subst (λ (x : List ℕ). AreOutside (length (tables_of p).symbols) (LiveIn (tables_of p) (symbol_at (analysis_of p)) x os) xs) is_exports
-        (subst (λ (f : ℕ → Option ℕ). AreOutside (length (tables_of p).symbols) (LiveIn (tables_of p) f exported os) xs) symbols_told
-        (subst (λ (x : Tables). AreOutside (length x.symbols) (LiveIn x (symbol_in nodes) exported os) xs) is_tables h)))
+        subst (λ (x : List (Option ℕ)). AreOutsideSet (length (tables_of p).symbols) (LiveIn (tables_of p) (symbol_at (analysis_of p)) (directly_exported (steps p)) x) xs) is_owners
+        (subst (λ (x : List ℕ). AreOutsideSet (length (tables_of p).symbols) (LiveIn (tables_of p) (symbol_at (analysis_of p)) x os) xs) is_exports
+        (subst (λ (f : ℕ → Option ℕ). AreOutsideSet (length (tables_of p).symbols) (LiveIn (tables_of p) f exported os) xs) symbols_told
+        (subst (λ (x : Tables). AreOutsideSet (length x.symbols) (LiveIn x (symbol_at_node nodes) exported os) xs) is_tables h)))
 
 module _ (p : Tree) (t : Tables) (is_tables : t ≡ tables_of p) (references : List AstKind) (are_names : map text_of references ≡ reference_names (steps p)) where
   pub as_many : first_fault p ≡ None → length references ≡ length t.references

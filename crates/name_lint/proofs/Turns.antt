@@ -8,7 +8,7 @@ use Rattle.semantic_syntax.specs.Tables.{Name, Tables}
 use Rattle.semantic_tree.specs.declared.view.AstKind.{AstKind}
 use Rattle.name_lint.specs.Gathered.{text_of}
 use Rattle.semantic_syntax.specs.Reading.{no_reference, no_symbol, reference_of, symbol_of}
-use Rattle.name_lint.specs.Uses.{Use, used_symbol, use_of, uses_by}
+use Rattle.name_lint.specs.Uses.{OwnedUse, used_symbol, use_of, uses_by}
 use Rattle.name_lint.specs.Live.{is_sure, sure_from, unmarked_from}
 use Rattle.name_lint.specs.Undeclared.{is_undeclared, undeclared_from}
 
@@ -54,7 +54,7 @@ module _ (known : List Name) (t : Tables) (n : ℕ) (nodes : List AstKind) where
 
 -- ---- uses
 
-module _ {B : Type 0} (f : Use → Option B) (os : List (Option ℕ)) (rs : List Reference) (n : ℕ) where
+module _ {B : Type 0} (f : OwnedUse → Option B) (os : List (Option ℕ)) (rs : List Reference) (n : ℕ) where
   pub uses_turn : (owner : Option ℕ) → n < length os → n < length rs → owner ≡ get_or os n owner
       → filter_map f (uses_by (drop n os) (drop n rs)) ≡ filter_map f (use_of owner (used_symbol (get_or rs n no_reference))) ++ filter_map f (uses_by (drop (n + 1) os) (drop (n + 1) rs))
   uses_turn owner h k is =

@@ -13,7 +13,7 @@ use Rattle.semantic_syntax.specs.NodeEntries.{NodeEntries}
 use Rattle.semantic_tree.specs.Views.{is}
 use Rattle.semantic_model.specs.Step.{Step, steps}
 use Rattle.semantic_model.specs.Analysis.{Analysis, analysis_of}
-use Rattle.name_lint.specs.Uses.{own_name, owners}
+use Rattle.name_lint.specs.Uses.{declared_name, owners}
 use Rattle.name_lint.specs.Undeclared.{reference_names, reference_spans}
 
 pub record Gathered : Type 0 where
@@ -25,8 +25,8 @@ abbrev pub nothing_gathered : Gathered
 nothing_gathered = record { names = []; spans = []; owners = [] }
 
 -- the symbol that the node declares, by what belongs to nodes
-abbrev pub symbol_in : NodeEntries → ℕ → Option ℕ
-symbol_in nodes node = lookup (nat_eq node) nodes.symbols
+abbrev pub symbol_at_node : NodeEntries → ℕ → Option ℕ
+symbol_at_node nodes node = lookup (nat_eq node) nodes.symbols
 
 abbrev pub symbol_or : (ℕ → Option ℕ) → Option ℕ → Option Node → Option ℕ
 symbol_or symbol owner None = owner
@@ -34,7 +34,7 @@ symbol_or symbol owner (Some id) = symbol id.node_id
 
 -- the owner of what stands in the node, which stands in an owner itself
 abbrev pub owner_inside : (ℕ → Option ℕ) → Option ℕ → Node → Option ℕ
-owner_inside symbol owner node = symbol_or symbol owner (own_name node)
+owner_inside symbol owner node = symbol_or symbol owner (declared_name node)
 
 -- what a view shows of the name and the place of a reference
 abbrev pub text_of : AstKind → Name

@@ -5,5 +5,5 @@ use Rattle.std.specs.declared.alloc.Global.{Global}
 use Rattle.semantic_syntax.specs.Tables.{Name}
 
 -- the names that the words are
-abbrev pub names_of : List (String Global) → List Name
-names_of words = map (λ word. chars (string_bytes word)) words
+abbrev pub known_names : List (String Global) → List Name
+known_names words = map (λ word. chars (string_bytes word)) words

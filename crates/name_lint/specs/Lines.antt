@@ -46,5 +46,5 @@ abbrev lines_by : List Step → (unused undeclared : List ℕ) → List ℕ
 lines_by walk unused undeclared = name_lines (tables_by walk) (reference_names walk) (reference_spans walk) unused undeclared
 
 -- the lines of a program's unused symbols and undeclared references
-abbrev pub lines_of : Tree → (unused undeclared : List ℕ) → List ℕ
-lines_of p unused undeclared = lines_by (steps p) unused undeclared
+abbrev pub finding_lines : Tree → (unused undeclared : List ℕ) → List ℕ
+finding_lines p unused undeclared = lines_by (steps p) unused undeclared

@@ -5,8 +5,8 @@ use Rattle.semantic_tree.specs.Tree.{Tree}
 use Rattle.program_ends.specs.FindingEnds.{end_of}
 use Rattle.program_ends.specs.Meaning.{End}
 use Rattle.name_lint.specs.Codes.{status_for}
-use Rattle.name_lint.specs.Known.{names_of}
-use Rattle.name_lint.specs.Lines.{lines_of}
+use Rattle.name_lint.specs.Known.{known_names}
+use Rattle.name_lint.specs.Lines.{finding_lines}
 use Rattle.name_lint.specs.Live.{AreUnused}
 use Rattle.name_lint.specs.Undeclared.{undeclared}
 
@@ -15,5 +15,5 @@ use Rattle.name_lint.specs.Undeclared.{undeclared}
 pub record Answers (words : List (String Global)) (end : End) (p : Tree) (text : List ℕ) : Type 0 where
   pub unused : List ℕ
   pub are_unused : AreUnused p unused
-  pub told : text ≡ lines_of p unused (undeclared (names_of words) p)
-  pub ends : end ≡ end_of (status_for unused (undeclared (names_of words) p))
+  pub told : text ≡ finding_lines p unused (undeclared (known_names words) p)
+  pub ends : end ≡ end_of (status_for unused (undeclared (known_names words) p))

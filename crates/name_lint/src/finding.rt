@@ -1,6 +1,6 @@
 //! The names of a program that are unused or undeclared.
 ghost use Rattle.std.specs.Prelude.{◌≡◌, IfOk};
-ghost use Rattle.name_lint.specs.Known.{names_of};
+ghost use Rattle.name_lint.specs.Known.{known_names};
 ghost use Rattle.name_lint.specs.Live.{AreUnused};
 ghost use Rattle.name_lint.specs.Undeclared.{undeclared};
 
@@ -16,7 +16,7 @@ use std::alloc::{AllocError, Global};
 pub fn find_names(alloc: Global, p: &Program, known: &[String]) -> Result<NameReport, AllocError>
     ensures unused { IfOk result (λ found. AreUnused p.now found.unused) }
     ensures undeclared { IfOk result (λ found. found.undeclared
-        ≡ undeclared (names_of known.now) p.now) }
+        ≡ undeclared (known_names known.now) p.now) }
 {
     let analysis = SemanticBuilder::new().build(alloc, p)?;
     let semantic = &analysis.semantic;

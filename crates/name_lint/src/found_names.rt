@@ -5,8 +5,8 @@ ghost use Rattle.semantic_model.specs.Step.{steps};
 ghost use Rattle.semantic_model.specs.TablesOf.{tables_of};
 ghost use Rattle.semantic.specs.Shown.{entries};
 ghost use Rattle.name_lint.specs.Gathered.{HasGathered};
-ghost use Rattle.name_lint.specs.Known.{names_of};
-ghost use Rattle.name_lint.specs.Live.{exports, AreUnused};
+ghost use Rattle.name_lint.specs.Known.{known_names};
+ghost use Rattle.name_lint.specs.Live.{directly_exported, AreUnused};
 ghost use Rattle.name_lint.specs.Undeclared.{undeclared};
 
 use crate::id_lists::{ReferenceIdList, SymbolIdList};
@@ -28,7 +28,7 @@ pub struct NameReport {
 
 /// The binding identifiers that exported declarations bind.
 fn exports(alloc: Global, program: &Program) -> Result<Vec<NodeId>, AllocError>
-    ensures { IfOk result (λ names. names.items ≡ exports (steps program.now)) }
+    ensures { IfOk result (λ names. names.items ≡ directly_exported (steps program.now)) }
 {
     let mut names = exported_names(alloc, program)?;
     let by_default = default_exported_names(alloc, program)?;
@@ -50,7 +50,7 @@ pub fn names_by(
     requires pass { HasGathered program.now pass.now }
     ensures unused { IfOk result (λ found. AreUnused program.now found.unused) }
     ensures undeclared { IfOk result (λ found. found.undeclared
-        ≡ undeclared (names_of known.now) program.now) }
+        ≡ undeclared (known_names known.now) program.now) }
 {
     let exported = exports(alloc, program)?;
     let unused = unused_symbols(alloc, scoping, tables, &exported, pass.owners())?;
@@ -70,7 +70,7 @@ pub fn names_in(
     requires nodes { tables.now.symbols ≡ entries (node_tables (steps program.now)).symbols }
     ensures unused { IfOk result (λ found. AreUnused program.now found.unused) }
     ensures undeclared { IfOk result (λ found. found.undeclared
-        ≡ undeclared (names_of known.now) program.now) }
+        ≡ undeclared (known_names known.now) program.now) }
 {
     let pass = TreePass::over(alloc, program, tables)?;
     names_by(alloc, program, scoping, tables, &pass, known)

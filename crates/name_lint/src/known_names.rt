@@ -2,7 +2,7 @@
 ghost use Rattle.std.specs.Prelude.{◌≡◌, [], ◌||◌, ℕ, List, bytes_eq, IfOk, OnOk, string_bytes};
 ghost use Rattle.std.specs.Str.{chars};
 ghost use Rattle.scoping_rows.specs.Names.{name_of};
-ghost use Rattle.name_lint.specs.Known.{names_of};
+ghost use Rattle.name_lint.specs.Known.{known_names};
 ghost use Rattle.name_lint.specs.Undeclared.{is_known};
 
 use indexmap::IndexSet;
@@ -48,7 +48,7 @@ impl KnownNames {
     /// The names that the words are.
     pub fn of(alloc: Global, words: &[String]) -> Result<KnownNames, AllocError>
         ensures { IfOk result (λ known. (name : List ℕ)
-            → is_known known name ≡ is_known (names_of words.now) name) }
+            → is_known known name ≡ is_known (known_names words.now) name) }
     {
         let mut known = KnownNames::new(alloc);
         for word in words {

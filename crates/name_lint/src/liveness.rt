@@ -2,9 +2,9 @@
 ghost use Rattle.std.specs.Prelude.{◌≡◌, ◌<◌, ◌++◌, ℕ, true, length, filter_map, IfOk, OnOk};
 ghost use Rattle.semantic_syntax.specs.Reading.{symbol_of};
 ghost use Rattle.reachability.specs.Marked.{is_marked};
-ghost use Rattle.name_lint.specs.Live.{is_sure, sure_from, unmarked_from, AreOutside};
-ghost use Rattle.name_lint.specs.Gathered.{symbol_in};
-ghost use Rattle.name_lint.specs.Within.{LiveIn, AreSymbols};
+ghost use Rattle.name_lint.specs.Live.{is_sure, sure_from, unmarked_from, AreOutsideSet};
+ghost use Rattle.name_lint.specs.Gathered.{symbol_at_node};
+ghost use Rattle.name_lint.specs.Within.{LiveIn, OwnersAreSymbols};
 
 use crate::id_lists::SymbolIdList;
 use crate::reference_uses::ReferenceUses;
@@ -48,7 +48,7 @@ fn add_declared(
     tables: &NodeTables,
 ) -> Result<(), AllocError>
     ensures { OnOk result (symbols.new.items
-        ≡ symbols.old.items ++ filter_map (symbol_in tables.now) nodes.now) }
+        ≡ symbols.old.items ++ filter_map (symbol_at_node tables.now) nodes.now) }
 {
     for node in nodes {
         if let Some(symbol) = tables.symbol_of(*node) {
@@ -69,7 +69,7 @@ fn live_at_once(
 ) -> Result<Vec<u32>, AllocError>
     ensures { IfOk result (λ symbols. symbols.items
         ≡ sure_from scoping.now 0 scoping.now.symbols
-        ++ filter_map (symbol_in tables.now) exported.now ++ free.now) }
+        ++ filter_map (symbol_at_node tables.now) exported.now ++ free.now) }
 {
     let mut symbols = Vec::new(alloc);
     add_sure(&mut symbols, scoping)?;
@@ -86,12 +86,12 @@ fn live_marks(
     exported: &[NodeId],
     owners: &[Option<SymbolId>],
 ) -> Result<Vec<bool>, AllocError>
-    requires { AreSymbols scoping.now (symbol_in tables.now) exported.now owners.now }
+    requires { OwnersAreSymbols scoping.now (symbol_at_node tables.now) exported.now owners.now }
     ensures length { IfOk result (λ marks. length marks.items ≡ length scoping.now.symbols) }
     ensures sound { IfOk result (λ marks. (s : ℕ) → is_marked marks.items s ≡ true
-        → LiveIn scoping.now (symbol_in tables.now) exported.now owners.now s) }
+        → LiveIn scoping.now (symbol_at_node tables.now) exported.now owners.now s) }
     ensures complete { IfOk result (λ marks. (s : ℕ)
-        → LiveIn scoping.now (symbol_in tables.now) exported.now owners.now s
+        → LiveIn scoping.now (symbol_at_node tables.now) exported.now owners.now s
         → is_marked marks.items s ≡ true) }
 {
     let uses = ReferenceUses::of(alloc, scoping, owners)?;
@@ -122,10 +122,10 @@ pub fn unused_symbols(
     exported: &[NodeId],
     owners: &[Option<SymbolId>],
 ) -> Result<SymbolIdList, AllocError>
-    requires { AreSymbols scoping.now (symbol_in tables.now) exported.now owners.now }
+    requires { OwnersAreSymbols scoping.now (symbol_at_node tables.now) exported.now owners.now }
     ensures { IfOk result (λ unused.
-        AreOutside (length scoping.now.symbols)
-        (LiveIn scoping.now (symbol_in tables.now) exported.now owners.now) unused) }
+        AreOutsideSet (length scoping.now.symbols)
+        (LiveIn scoping.now (symbol_at_node tables.now) exported.now owners.now) unused) }
 {
     let marks = live_marks(alloc, scoping, tables, exported, owners)?;
     let _count = scoping.symbols_len();

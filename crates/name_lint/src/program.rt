@@ -126,7 +126,7 @@ impl FindingProgram for NameLint {
     ghost use Rattle.std.proofs.Common.{ap, ◌∙◌};
     ghost use Rattle.program_ends.specs.Meaning.{is_answer};
     ghost use Rattle.name_lint.specs.Codes.{status_answers};
-    ghost use Rattle.name_lint.specs.Known.{names_of};
+    ghost use Rattle.name_lint.specs.Known.{known_names};
     ghost use Rattle.name_lint.specs.Meaning.{Answers};
     ghost use Rattle.name_lint.specs.Telling.{usage_line};
     ghost use Rattle.name_lint.specs.Undeclared.{undeclared};
@@ -139,7 +139,7 @@ impl FindingProgram for NameLint {
     ghost Answers = { Answers };
 
     ghost ends_answer = { λ words end program text answers. ap is_answer answers.ends
-        ∙ status_answers answers.unused (undeclared (names_of words) program) };
+        ∙ status_answers answers.unused (undeclared (known_names words) program) };
 
     fn usage() -> &'static str {
         USAGE

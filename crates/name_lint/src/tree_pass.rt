@@ -3,8 +3,8 @@ ghost use Rattle.std.specs.Prelude.{◌≡◌, map, OnOk, IfOk};
 ghost use Rattle.semantic_model.specs.NodeTable.{node_tables};
 ghost use Rattle.semantic_model.specs.Step.{steps};
 ghost use Rattle.semantic.specs.Shown.{entries};
-ghost use Rattle.name_lint.specs.Uses.{is_declaration};
-ghost use Rattle.name_lint.specs.Gathered.{nothing_gathered, symbol_in, text_of, span_of, owner_inside, gathered_at, gathered_from, HasGathered};
+ghost use Rattle.name_lint.specs.Uses.{is_named_declaration};
+ghost use Rattle.name_lint.specs.Gathered.{nothing_gathered, symbol_at_node, text_of, span_of, owner_inside, gathered_at, gathered_from, HasGathered};
 
 use node_rules::questions::reads;
 use scoping::NodeTables;
@@ -31,7 +31,7 @@ impl<'a> Model for TreePass<'a> {
 
 /// Whether the node is a function or class declaration.
 fn is_declaration(node: AstKind<'_>) -> bool
-    ensures { result ≡ is_declaration node.entry.node.now }
+    ensures { result ≡ is_named_declaration node.entry.node.now }
 {
     match node.ty() {
         AstType::Function | AstType::Class => reads(node, "declaration"),
@@ -45,7 +45,7 @@ fn owner_inside(
     owner: &Option<SymbolId>,
     tables: &NodeTables,
 ) -> Option<SymbolId>
-    ensures { result ≡ owner_inside (symbol_in tables.now) owner.now node.entry.node.now }
+    ensures { result ≡ owner_inside (symbol_at_node tables.now) owner.now node.entry.node.now }
 {
     if !is_declaration(node) {
         return *owner;
@@ -117,7 +117,7 @@ impl<'a> TreePass<'a> {
         tables: &NodeTables,
     ) -> Result<(), AllocError>
         ensures { OnOk result (self.new
-            ≡ gathered_from (symbol_in tables.now) owner.now node.entry.node.now self.old) }
+            ≡ gathered_from (symbol_at_node tables.now) owner.now node.entry.node.now self.old) }
     {
         self.gather_at(node, owner)?;
         let inside = owner_inside(node, owner, tables);

@@ -3,7 +3,7 @@ ghost use Rattle.std.specs.Prelude.{◌≡◌, ◌<◌, length, map, IfOk, ℕ, 
 ghost use Rattle.scoping_rows.specs.Names.{name_of};
 ghost use Rattle.semantic_syntax.specs.Lookup.{is_arguments};
 ghost use Rattle.name_lint.specs.Gathered.{text_of};
-ghost use Rattle.name_lint.specs.Known.{names_of};
+ghost use Rattle.name_lint.specs.Known.{known_names};
 ghost use Rattle.name_lint.specs.Undeclared.{means_arguments, is_known, is_undeclared, undeclared_from};
 
 use crate::id_lists::ReferenceIdList;
@@ -76,7 +76,7 @@ pub fn undeclared_names(
 ) -> Result<ReferenceIdList, AllocError>
     requires { length references.now ≡ length scoping.now.references }
     ensures { IfOk result (λ found. found
-        ≡ undeclared_from (names_of words.now) scoping.now 0
+        ≡ undeclared_from (known_names words.now) scoping.now 0
         (map text_of references.now) scoping.now.references) }
 {
     let known = KnownNames::of(alloc, words)?;

@@ -12,7 +12,7 @@ use Rattle.semantic_tree.specs.declared.node.Node.{Node}
 use Rattle.semantic_kinds.specs.Classes.{holds_kind}
 use Rattle.semantic_model.specs.Entries.{Among}
 use Rattle.semantic_tree.specs.Views.{is, child_of, children_of}
-use Rattle.semantic_model.specs.Namespace.{instantiated, non_instantiated, Item, Reached, counts_as, leads_to, is_module, is_import_equals, is_list, statements, body_items, declaration_in, exported, declares, first_declaring, target_of, item_reached, local_reached, specifier_reached, specifiers_reached, declaration_reached, reached_from, reach}
+use Rattle.semantic_model.specs.Namespace.{instantiated, non_instantiated, Item, StatementReach, counts_as, leads_to, is_namespace_or_module, is_import_equals, is_list, statements, body_items, declaration_in, exported, declares, first_declaring, target_of, item_reached, local_reached, specifier_reached, specifiers_reached, declaration_reached, reached_from, reach}
 use Rattle.namespace_states.specs.Statements.{lists_inside, items_below, items_from}
 use Rattle.namespace_states.specs.Descents.{heads}
 use Rattle.namespace_states.proofs.Lists.{among-append, among-left, among-right, among-mapped, among-flattened}
@@ -129,9 +129,9 @@ specifier-in all lists s j h a = go (child_of role.Local s) a
 
 specifiers-in : (all : List Item) (lists : List (List Node)) (ss : List Node) (j : Item) → HasLists all lists → Among j (specifiers_reached (map (specifier_reached lists) ss)).items → Among j all
 specifiers-in all lists ss j h a =
-    let (r, (b, c)) = among-flattened (λ (r : Reached). r.items) j (map (specifier_reached lists) ss) a in
+    let (r, (b, c)) = among-flattened (λ (r : StatementReach). r.items) j (map (specifier_reached lists) ss) a in
     let (s, (d, e)) = among-mapped (specifier_reached lists) r ss b in
-    specifier-in all lists s j h (subst (λ (r : Reached). Among j r.items) (sym e) c)
+    specifier-in all lists s j h (subst (λ (r : StatementReach). Among j r.items) (sym e) c)
 
 -- the items of a body
 body-in : (all : List Item) (i : Item) (o : Option Node) (j : Item) → ((k : Item) → Among k all → IsClosed all k) → ((body : Node) → o ≡ Some body → Among (record { node = body; lists = i.lists }) all)
@@ -153,7 +153,7 @@ body-in all i (Some body) j closed k a = go (is_list body) refl a
 
 -- what an exported declaration leads to
 declaration-in : (all : List Item) (lists : List (List Node)) (d : Node) (j : Item) → Among (record { node = d; lists = lists }) all → Among j (declaration_reached lists d).items → Among j all
-declaration-in all lists d j h a = go (is_module d) a
+declaration-in all lists d j h a = go (is_namespace_or_module d) a
   where
     none : (b : Bool) → Among j (cond b (counts_as non_instantiated) (counts_as instantiated)).items → Among j all
     none true a = absurd a

@@ -9,14 +9,14 @@ use Rattle.semantic_tree.specs.declared.node.Node.{Node}
 use Rattle.semantic_tree.specs.Views.{has_text}
 use Rattle.semantic_model.specs.Names.{bound_names}
 use Rattle.semantic_model.specs.Namespace.{exported, declares, first_declaring}
-use Rattle.namespace_states.specs.FirstNames.{Named, with_first, with_names, with_statements}
+use Rattle.namespace_states.specs.FirstNames.{NamedStatement, with_first, with_first_names, with_statements}
 
 -- the first of two, if there is one
 abbrev first_or : Option Node → Option Node → Option Node
 first_or None o = o
 first_or (Some x) o = Some x
 
-found_last : (name : Name) (es : List Named) (e : Named) → lookup (bytes_eq name) (es ++ e ∷ []) ≡ first_or (lookup (bytes_eq name) es) (cond (bytes_eq name e.0) (Some e.1) None)
+found_last : (name : Name) (es : List NamedStatement) (e : NamedStatement) → lookup (bytes_eq name) (es ++ e ∷ []) ≡ first_or (lookup (bytes_eq name) es) (cond (bytes_eq name e.0) (Some e.1) None)
 found_last name [] e = refl
 found_last name (x ∷ es) e = by (bytes_eq name x.0) (found_last name es e)
   where
@@ -26,7 +26,7 @@ found_last name (x ∷ es) e = by (bytes_eq name x.0) (found_last name es e)
     by false h = h
 
 -- a name that is added is found where none was found before
-found_first : (name : Name) (es : List Named) (e : Named) → lookup (bytes_eq name) (with_first es e) ≡ first_or (lookup (bytes_eq name) es) (cond (bytes_eq name e.0) (Some e.1) None)
+found_first : (name : Name) (es : List NamedStatement) (e : NamedStatement) → lookup (bytes_eq name) (with_first es e) ≡ first_or (lookup (bytes_eq name) es) (cond (bytes_eq name e.0) (Some e.1) None)
 found_first name es e = go (lookup (bytes_eq e.0) es) refl
   where
     past : (b : Bool) → bytes_eq name e.0 ≡ b → (x : Node) → lookup (bytes_eq e.0) es ≡ Some x → lookup (bytes_eq name) es ≡ first_or (lookup (bytes_eq name) es) (cond b (Some e.1) None)
@@ -57,7 +57,7 @@ same-test a b = go (bytes_eq a b) refl (bytes_eq b a) refl
     go false p true q = let other : bytes_eq a b ≡ true = (bytes_eq-Decides a b).1 (sym ((bytes_eq-Decides b a).0 q)) in let both : true ≡ false = sym other ∙ p in cc
     go false p false q = refl
 
-found_names : (name : Name) (es : List Named) (statement : Node) (ns : List Node) → lookup (bytes_eq name) (with_names es statement ns) ≡ first_or (lookup (bytes_eq name) es) (cond (list_any (has_text name) ns) (Some statement) None)
+found_names : (name : Name) (es : List NamedStatement) (statement : Node) (ns : List Node) → lookup (bytes_eq name) (with_first_names es statement ns) ≡ first_or (lookup (bytes_eq name) es) (cond (list_any (has_text name) ns) (Some statement) None)
 found_names name es statement [] = none (lookup (bytes_eq name) es)
   where
     none : (o : Option Node) → o ≡ first_or o None
@@ -73,14 +73,14 @@ found_names name es statement (n ∷ ns) =
     either true c = refl
     either false c = refl
 
-found_statements : (name : Name) (es : List Named) (xs : List Node) → lookup (bytes_eq name) (with_statements es xs) ≡ first_or (lookup (bytes_eq name) es) (first_declaring name xs)
+found_statements : (name : Name) (es : List NamedStatement) (xs : List Node) → lookup (bytes_eq name) (with_statements es xs) ≡ first_or (lookup (bytes_eq name) es) (first_declaring name xs)
 found_statements name es [] = none (lookup (bytes_eq name) es)
   where
     none : (o : Option Node) → o ≡ first_or o None
     none None = refl
     none (Some y) = refl
 found_statements name es (x ∷ xs) =
-    found_statements name (with_names es x (bound_names (exported x))) xs
+    found_statements name (with_first_names es x (bound_names (exported x))) xs
     ∙ ap (λ o. first_or o (first_declaring name xs)) (found_names name es x (bound_names (exported x)))
     ∙ first_assoc (lookup (bytes_eq name) es) (cond (declares name x) (Some x) None) (first_declaring name xs)
     ∙ ap (λ o. first_or (lookup (bytes_eq name) es) o) (first (declares name x))

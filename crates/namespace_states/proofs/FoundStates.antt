@@ -4,7 +4,7 @@ use Rattle.std.proofs.lemmas.List.{map-append, length-map}
 use Rattle.std.specs.declared.alloc.Global.{Global}
 use Rattle.std.proofs.Math.ListN.{drop_of_length-le}
 use Rattle.semantic_syntax.proofs.Truth.{drop_here}
-use Rattle.reachability.specs.Rows.{lists, rows_of, Reached, seed, onward as step, AreWithin, Among as IsListed}
+use Rattle.reachability.specs.Rows.{lists, rows_from_pairs, Reached, seed, onward as step, AreWithin, Among as IsListed}
 use Rattle.reachability.specs.Marked.{is_marked}
 use Rattle.reachability.proofs.Pairs.{rows_have, rows_have_only}
 use Rattle.reachability.proofs.Within.{all_from, length_rows_of, rows_of_within}
@@ -80,7 +80,7 @@ module _ (root : Node) (numbered : IsNumbered root) (led : Led) (noted : IsNoted
       go : (n : ℕ) → (i : Item) × (Among i (items_from root) × (CountsAs i s × (i.node.node_id ≡ n))) → n < node_count root
       go n (i, (b, (c, e))) = let low = below_count root i numbered b in omega (arith, low, e)
 
-  sound : (s : InstanceState) (seeds : List ℕ) → AreOf s seeds → (n : ℕ) → Reached (rows_of (node_count root) led.backward) seeds n → (i : Item) → Among i (items_from root) → i.node.node_id ≡ n → (j : Item) × (Reaches i j × CountsAs j s)
+  sound : (s : InstanceState) (seeds : List ℕ) → AreOf s seeds → (n : ℕ) → Reached (rows_from_pairs (node_count root) led.backward) seeds n → (i : Item) → Among i (items_from root) → i.node.node_id ≡ n → (j : Item) × (Reaches i j × CountsAs j s)
   sound s seeds of n (seed m a) i b e =
       let (k, (c, (d, f))) = of.only n (among n seeds a) in
       let same : k ≡ i = apart root k i numbered c b (f ∙ sym e) in
@@ -92,7 +92,7 @@ module _ (root : Node) (numbered : IsNumbered root) (led : Led) (noted : IsNoted
       let (m, (t, u)) = sound s seeds of a r j (leads-within (items_from root) (λ x y. closed root x y) k j c q) (ap (λ (p : ℕ × ℕ). p.0) f) in
       (m, (subst (λ (x : Item). Reaches x m) same (before k j m q t), u))
 
-  complete : (seeds : List ℕ) (i j : Item) → Among i (items_from root) → Reaches i j → Reached (rows_of (node_count root) led.backward) seeds j.node.node_id → Reached (rows_of (node_count root) led.backward) seeds i.node.node_id
+  complete : (seeds : List ℕ) (i j : Item) → Among i (items_from root) → Reaches i j → Reached (rows_from_pairs (node_count root) led.backward) seeds j.node.node_id → Reached (rows_from_pairs (node_count root) led.backward) seeds i.node.node_id
   complete seeds i j a itself r = r
   complete seeds i j a (onward k l q t) r =
       let back : Among (j.node.node_id, k.node.node_id) led.backward = noted.leads k j (reaches-in i k a q) t in
@@ -100,10 +100,10 @@ module _ (root : Node) (numbered : IsNumbered root) (led : Led) (noted : IsNoted
 
   -- the marks are those of what is reached backward
   pub record AreMarks (seeds : List ℕ) (marks : List Bool) : Type 0 where
-    pub sound : (n : ℕ) → is_marked marks n ≡ true → Reached (rows_of (node_count root) led.backward) seeds n
-    pub complete : (n : ℕ) → Reached (rows_of (node_count root) led.backward) seeds n → is_marked marks n ≡ true
+    pub sound : (n : ℕ) → is_marked marks n ≡ true → Reached (rows_from_pairs (node_count root) led.backward) seeds n
+    pub complete : (n : ℕ) → Reached (rows_from_pairs (node_count root) led.backward) seeds n → is_marked marks n ≡ true
 
-  pub marks_of : (rows : List (List ℕ)) (ends seeds : List ℕ) (marks : List Bool) → rows ≡ rows_of (node_count root) led.backward → ends ≡ seeds
+  pub marks_of : (rows : List (List ℕ)) (ends seeds : List ℕ) (marks : List Bool) → rows ≡ rows_from_pairs (node_count root) led.backward → ends ≡ seeds
       → ((n : ℕ) → is_marked marks n ≡ true → Reached rows ends n) → ((n : ℕ) → Reached rows ends n → is_marked marks n ≡ true) → AreMarks seeds marks
   marks_of rows ends seeds marks e f s c = record {
     sound = λ n h. subst (λ (rs : List (List ℕ)). Reached rs seeds n) e (subst (λ (xs : List ℕ). Reached rows xs n) f (s n h));
@@ -144,10 +144,10 @@ module _ (root : Node) (numbered : IsNumbered root) (led : Led) (noted : IsNoted
       go false e true f = record { above = above-enum e; reached = inr (sound const_enum_only led.const_enums const_enums_of i.node.node_id (c.sound i.node.node_id f) i a refl) }
       go false e false f = record { above = above-none e f; reached = inl refl }
 
-pub made_count : (n : ℕ) (rows : List (Vec ℕ Global)) (pairs : List (ℕ × ℕ)) → lists rows ≡ rows_of n pairs → length rows ≡ n
+pub made_count : (n : ℕ) (rows : List (Vec ℕ Global)) (pairs : List (ℕ × ℕ)) → lists rows ≡ rows_from_pairs n pairs → length rows ≡ n
 made_count n rows pairs e = sym (length-map rows (λ (v : Vec ℕ Global). v.items)) ∙ ap length e ∙ length_rows_of n pairs
 
-pub made_within : (n : ℕ) (rows : List (Vec ℕ Global)) (pairs : List (ℕ × ℕ)) → lists rows ≡ rows_of n pairs → All (λ (pair : ℕ × ℕ). pair.0 < n) pairs → All (λ (pair : ℕ × ℕ). pair.1 < n) pairs → AreWithin (length rows) (lists rows)
+pub made_within : (n : ℕ) (rows : List (Vec ℕ Global)) (pairs : List (ℕ × ℕ)) → lists rows ≡ rows_from_pairs n pairs → All (λ (pair : ℕ × ℕ). pair.0 < n) pairs → All (λ (pair : ℕ × ℕ). pair.1 < n) pairs → AreWithin (length rows) (lists rows)
 made_within n rows pairs e h k = subst (λ m. AreWithin m (lists rows)) (sym (made_count n rows pairs e)) (subst (AreWithin n) (sym e) (rows_of_within n n pairs h k))
 
 -- the nodes of a program are entered at its places

@@ -9,7 +9,7 @@ use Rattle.semantic_syntax.proofs.SameTexts.{lookup_text}
 use Rattle.semantic_tree.specs.ChildIter.{shown}
 use Rattle.semantic_tree.specs.declared.node.Node.{Node}
 use Rattle.semantic_tree.specs.declared.view.AstKind.{AstKind}
-use Rattle.namespace_states.specs.FirstNames.{Named, with_first}
+use Rattle.namespace_states.specs.FirstNames.{NamedStatement, with_first}
 use Rattle.namespace_states.specs.Entries.{Stored, entry_shown, IsSpelled}
 
 abbrev text_eq : Bor (List ℕ) → Bor (List ℕ) → Bool
@@ -42,7 +42,7 @@ pub put_new : (k : Bor (List ℕ)) (v : AstKind) → IsUtf8 k.now → (es : List
 put_new k v u es h n =
     let none : lookup (λ l. bytes_eq k.now l.now) es ≡ None = none_there (lookup (λ l. bytes_eq k.now l.now) es) n in
     let same : lookup (bytes_eq (chars k.now)) (map entry_shown es) ≡ None = lookup_shown k.now u es h ∙ ap (option_map shown) none in
-    let all : List Named = map entry_shown es in
+    let all : List NamedStatement = map entry_shown es in
     ap (map entry_shown) (inserted_last k v es none) ∙ shown_last es (k, v)
     ∙ sym (ap (λ (o : Option Node). elim o [ None ↦ all ++ (chars k.now, v.node.now) ∷ [] | Some x ↦ all ]) same)
 
@@ -55,7 +55,7 @@ pub put_known : (k : Bor (List ℕ)) (v : Node) → IsUtf8 k.now → (es : List 
 put_known k v u es h n =
     let (x, found) = some_there (lookup (λ l. bytes_eq k.now l.now) es) n in
     let same : lookup (bytes_eq (chars k.now)) (map entry_shown es) ≡ Some x.node.now = lookup_shown k.now u es h ∙ ap (option_map shown) found in
-    let all : List Named = map entry_shown es in
+    let all : List NamedStatement = map entry_shown es in
     sym (ap (λ (o : Option Node). elim o [ None ↦ all ++ (chars k.now, v) ∷ [] | Some y ↦ all ]) same)
 
 pub put_spelled : (k : Bor (List ℕ)) (v : AstKind) → IsUtf8 k.now → (es : List Stored) → AllByRecursion IsSpelled es → AllByRecursion IsSpelled (insert_entry text_eq es k v)

@@ -3,11 +3,11 @@ use Rattle.std.proofs.Common.{◌≡◌, ℕ, List, [], ◌∷◌, ◌++◌, ◌
 use Rattle.semantic_tree.specs.Forest.{Forest, nothing, tree}
 use Rattle.semantic_tree.specs.declared.node.Node.{Node}
 use Rattle.semantic_model.specs.Entries.{Among}
-use Rattle.semantic_model.specs.Namespace.{InstanceState, non_instantiated, instantiated, const_enum_only, Item, Reached, reach}
+use Rattle.semantic_model.specs.Namespace.{InstanceState, non_instantiated, instantiated, const_enum_only, Item, StatementReach, reach}
 use Rattle.namespace_states.specs.Reaches.{LeadsTo, CountsAs}
 use Rattle.namespace_states.specs.Statements.{lists_inside, items_below, items_from}
 use Rattle.namespace_states.proofs.Lists.{among-append, among-left, among-right, among-map, among-mapped}
-use Rattle.namespace_states.specs.Led.{Led, nothing_led, counted, counted_all, led_by, led_below, led_from}
+use Rattle.namespace_states.specs.Led.{Led, nothing_led, with_state, counted_all, led_by, led_below, led_from}
 
 -- statements by what each leads to, in order
 abbrev led_by_all : Led → List Item → Led
@@ -79,7 +79,7 @@ last-one n m xs a = elim (among-append m xs (n ∷ []) a) [
   | inr b ↦ elim b [ inl e ↦ inr e | inr c ↦ absurd c ]
 ]
 
-count-one : (s t : InstanceState) (led : Led) (n m : ℕ) → Among m (noted s (counted led n t)) → Among m (noted s led) ⊎ ((t ≡ s) × (n ≡ m))
+count-one : (s t : InstanceState) (led : Led) (n m : ℕ) → Among m (noted s (with_state led n t)) → Among m (noted s led) ⊎ ((t ≡ s) × (n ≡ m))
 count-one non_instantiated t led n m a = absurd a
 count-one instantiated non_instantiated led n m a = inl a
 count-one instantiated instantiated led n m a = elim (last-one n m led.values a) [ inl b ↦ inl b | inr e ↦ inr (refl, e) ]
@@ -90,13 +90,13 @@ count-one const_enum_only const_enum_only led n m a = elim (last-one n m led.con
 
 count-states : (s : InstanceState) (led : Led) (n m : ℕ) (ts : List InstanceState) → Among m (noted s (counted_all led n ts)) → Among m (noted s led) ⊎ (Among s ts × (n ≡ m))
 count-states s led n m [] a = inl a
-count-states s led n m (t ∷ ts) a = elim (count-states s (counted led n t) n m ts a) [
+count-states s led n m (t ∷ ts) a = elim (count-states s (with_state led n t) n m ts a) [
   | inr b ↦ inr (inr b.0, b.1)
   | inl b ↦ elim (count-one s t led n m b) [ inl c ↦ inl c | inr c ↦ inr (inl c.0, c.1) ]
 ]
 
 -- what a statement adds to those that count is by its states alone
-by-states : (s : InstanceState) (led : Led) (n : ℕ) (r : Reached) → noted s (led_by led n r) ≡ noted s (counted_all led n r.states)
+by-states : (s : InstanceState) (led : Led) (n : ℕ) (r : StatementReach) → noted s (led_by led n r) ≡ noted s (counted_all led n r.states)
 by-states non_instantiated led n r = refl
 by-states instantiated led n r = refl
 by-states const_enum_only led n r = refl
@@ -111,7 +111,7 @@ count-all s led (i ∷ more) m a = elim (count-all s (led_by led i.node.node_id 
   ]
 ]
 
-kept-one : (s t : InstanceState) (led : Led) (n m : ℕ) → Among m (noted s led) → Among m (noted s (counted led n t))
+kept-one : (s t : InstanceState) (led : Led) (n m : ℕ) → Among m (noted s led) → Among m (noted s (with_state led n t))
 kept-one non_instantiated t led n m a = absurd a
 kept-one instantiated non_instantiated led n m a = a
 kept-one instantiated instantiated led n m a = among-left m led.values (n ∷ []) a
@@ -122,7 +122,7 @@ kept-one const_enum_only const_enum_only led n m a = among-left m led.const_enum
 
 kept-states : (s : InstanceState) (led : Led) (n m : ℕ) (ts : List InstanceState) → Among m (noted s led) → Among m (noted s (counted_all led n ts))
 kept-states s led n m [] a = a
-kept-states s led n m (t ∷ ts) a = kept-states s (counted led n t) n m ts (kept-one s t led n m a)
+kept-states s led n m (t ∷ ts) a = kept-states s (with_state led n t) n m ts (kept-one s t led n m a)
 
 kept-count : (s : InstanceState) (led : Led) (items : List Item) (m : ℕ) → Among m (noted s led) → Among m (noted s (led_by_all led items))
 kept-count s led [] m a = a
@@ -134,15 +134,15 @@ abbrev IsTold : InstanceState → Type 0
 IsTold non_instantiated = ⊥
 IsTold _ = Unit {0}
 
-noted-one : (s : InstanceState) → IsTold s → (led : Led) (n : ℕ) → Among n (noted s (counted led n s))
+noted-one : (s : InstanceState) → IsTold s → (led : Led) (n : ℕ) → Among n (noted s (with_state led n s))
 noted-one non_instantiated t led n = absurd t
 noted-one instantiated t led n = among-right n led.values (n ∷ []) (inl refl)
 noted-one const_enum_only t led n = among-right n led.const_enums (n ∷ []) (inl refl)
 
 noted-states : (s : InstanceState) → IsTold s → (led : Led) (n : ℕ) (ts : List InstanceState) → Among s ts → Among n (noted s (counted_all led n ts))
 noted-states s k led n [] a = absurd a
-noted-states s k led n (t ∷ ts) (inl e) = kept-states s (counted led n t) n n ts (subst (λ u. Among n (noted s (counted led n u))) (sym e) (noted-one s k led n))
-noted-states s k led n (t ∷ ts) (inr a) = noted-states s k (counted led n t) n ts a
+noted-states s k led n (t ∷ ts) (inl e) = kept-states s (with_state led n t) n n ts (subst (λ u. Among n (noted s (with_state led n u))) (sym e) (noted-one s k led n))
+noted-states s k led n (t ∷ ts) (inr a) = noted-states s k (with_state led n t) n ts a
 
 noted-count : (s : InstanceState) → IsTold s → (led : Led) (items : List Item) (i : Item) → Among i items → CountsAs i s → Among i.node.node_id (noted s (led_by_all led items))
 noted-count s k led [] i a c = absurd a

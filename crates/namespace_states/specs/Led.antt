@@ -2,7 +2,7 @@
 use Rattle.std.specs.Prelude.{ℕ, List, [], ◌∷◌, ◌++◌, map}
 use Rattle.semantic_tree.specs.Forest.{Forest, nothing, tree}
 use Rattle.semantic_tree.specs.declared.node.Node.{Node}
-use Rattle.semantic_model.specs.Namespace.{InstanceState, non_instantiated, instantiated, const_enum_only, Item, Reached, reach}
+use Rattle.semantic_model.specs.Namespace.{InstanceState, non_instantiated, instantiated, const_enum_only, Item, StatementReach, reach}
 use Rattle.namespace_states.specs.Statements.{lists_inside}
 
 pub record Led : Type 0 where
@@ -17,21 +17,21 @@ abbrev pub nothing_led : Led
 nothing_led = record { backward = []; values = []; const_enums = [] }
 
 -- a statement counts as a state
-abbrev pub counted : Led → ℕ → InstanceState → Led
-counted led from non_instantiated = led
-counted led from instantiated = record led { values = led.values ++ from ∷ [] }
-counted led from const_enum_only = record led { const_enums = led.const_enums ++ from ∷ [] }
+abbrev pub with_state : Led → ℕ → InstanceState → Led
+with_state led from non_instantiated = led
+with_state led from instantiated = record led { values = led.values ++ from ∷ [] }
+with_state led from const_enum_only = record led { const_enums = led.const_enums ++ from ∷ [] }
 
 abbrev pub counted_all : Led → ℕ → List InstanceState → Led
 counted_all led from [] = led
-counted_all led from (s ∷ ss) = counted_all (counted led from s) from ss
+counted_all led from (s ∷ ss) = counted_all (with_state led from s) from ss
 
 -- it leads to another
 abbrev pub led_to : Led → ℕ → ℕ → Led
 led_to led from to = record led { backward = led.backward ++ (to, from) ∷ [] }
 
 -- it counts as these states and leads to these statements
-abbrev pub led_by : Led → ℕ → Reached → Led
+abbrev pub led_by : Led → ℕ → StatementReach → Led
 led_by led from r = record {
   backward = led.backward ++ map (λ i. (i.node.node_id, from)) r.items;
   values = (counted_all led from r.states).values;

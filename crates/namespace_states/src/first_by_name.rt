@@ -6,7 +6,7 @@ ghost use Rattle.std.specs.Str.{chars, bytes_eq, IsUtf8};
 ghost use Rattle.semantic_tree.specs.ChildIter.{shown};
 ghost use Rattle.semantic_model.specs.Names.{bound_names};
 ghost use Rattle.semantic_model.specs.Namespace.{exported, statements};
-ghost use Rattle.namespace_states.specs.FirstNames.{with_first, with_names, with_statements};
+ghost use Rattle.namespace_states.specs.FirstNames.{with_first, with_first_names, with_statements};
 
 use indexmap::IndexMap;
 use node_rules::bound_identifiers::bound_identifiers;
@@ -27,10 +27,10 @@ impl<'a> Model for FirstByName<'a> {
     ghost use Rattle.std.specs.Coded.{codes};
     ghost use Rattle.std.specs.List.{AllByRecursion};
     ghost use Rattle.semantic_tree.specs.contracts.node.Node as node;
-    ghost use Rattle.namespace_states.specs.FirstNames.{Named};
+    ghost use Rattle.namespace_states.specs.FirstNames.{NamedStatement};
     ghost use Rattle.namespace_states.specs.Entries.{entry_shown, IsSpelled};
 
-    ghost Value = { List Named };
+    ghost Value = { List NamedStatement };
 
     ghost coded = { Prim.hlevel (codes, node.the_row.coded) };
 
@@ -84,7 +84,8 @@ impl<'a> FirstByName<'a> {
         statement: AstKind<'a>,
     ) -> Result<(), AllocError>
         ensures { OnOk result (self.new
-            ≡ with_names self.old statement.entry.node.now (bound_names kind.entry.node.now)) }
+            ≡ with_first_names self.old statement.entry.node.now
+            (bound_names kind.entry.node.now)) }
     {
         let names = bound_identifiers(alloc, kind)?;
         for name in names.iter() {

@@ -2,7 +2,7 @@
 
 ghost use Rattle.std.specs.Prelude.{◌≡◌, OnOk};
 ghost use Rattle.semantic_model.specs.Namespace.{instantiated, const_enum_only};
-ghost use Rattle.namespace_states.specs.Led.{nothing_led, counted, led_to};
+ghost use Rattle.namespace_states.specs.Led.{nothing_led, with_state, led_to};
 
 use semantic_syntax::NodeId;
 use std::alloc::{AllocError, Global};
@@ -59,7 +59,7 @@ impl Leads {
 
     /// A statement counts as a value.
     pub(crate) fn count_value(&mut self, from: NodeId) -> Result<(), AllocError>
-        ensures { OnOk result (self.new ≡ counted self.old from instantiated) }
+        ensures { OnOk result (self.new ≡ with_state self.old from instantiated) }
     {
         self.values.push(number(from))?;
         Ok(())
@@ -67,7 +67,7 @@ impl Leads {
 
     /// A statement counts as a `const` enum.
     pub(crate) fn count_const_enum(&mut self, from: NodeId) -> Result<(), AllocError>
-        ensures { OnOk result (self.new ≡ counted self.old from const_enum_only) }
+        ensures { OnOk result (self.new ≡ with_state self.old from const_enum_only) }
     {
         self.const_enums.push(number(from))?;
         Ok(())

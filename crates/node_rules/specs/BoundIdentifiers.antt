@@ -7,9 +7,9 @@ use Rattle.semantic_tree.specs.ChildIter.{shown}
 use Rattle.node_rules.specs.declared.bound_identifiers.BoundIdentifiersIter.{BoundIdentifiersIter}
 
 -- the first, if there is one, and then the others
-abbrev pub in_order : Option AstKind → List AstKind → List Node
-in_order None more = map shown more
-in_order (Some first) more = first.node.now ∷ map shown more
+abbrev pub first_and_rest : Option AstKind → List AstKind → List Node
+first_and_rest None more = map shown more
+first_and_rest (Some first) more = first.node.now ∷ map shown more
 
 -- the first place is filled before the others
 abbrev pub IsFilledInOrder : Option AstKind → List AstKind → Type 0
@@ -18,4 +18,4 @@ IsFilledInOrder (Some first) more = ⊤
 
 -- the names that are left
 abbrev pub names_left : BoundIdentifiersIter → List Node
-names_left it = in_order it.first (iter_rest it.more)
+names_left it = first_and_rest it.first (iter_rest it.more)

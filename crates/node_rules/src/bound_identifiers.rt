@@ -45,13 +45,13 @@ impl<'a> Model for BoundIdentifiers<'a> {
     ghost use Rattle.std.specs.Coded.{codes};
     ghost use Rattle.semantic_tree.specs.contracts.node.Node as node;
     ghost use Rattle.semantic_tree.specs.declared.node.Node.{Node};
-    ghost use Rattle.node_rules.specs.BoundIdentifiers.{in_order, IsFilledInOrder};
+    ghost use Rattle.node_rules.specs.BoundIdentifiers.{first_and_rest, IsFilledInOrder};
 
     ghost Value = { List Node };
 
     ghost coded = { Prim.hlevel (codes, node.the_row.coded) };
 
-    ghost view = { λ names. in_order names.first names.more.items };
+    ghost view = { λ names. first_and_rest names.first names.more.items };
 
     ghost invariant = { λ names. IsFilledInOrder names.first names.more.items };
 }

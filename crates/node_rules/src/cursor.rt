@@ -7,7 +7,7 @@ ghost use Rattle.semantic_kinds.specs.Classes.{holds_kind};
 ghost use Rattle.semantic_kinds.specs.declared.kind.AstType.TheVariants.{IdentifierName as identifier_name, PrivateIdentifier as private_identifier};
 ghost use Rattle.semantic_tree.specs.Views.{has_text};
 ghost use Rattle.semantic_tree.specs.Unwrapped.{inner_expression};
-ghost use Rattle.semantic_model.specs.Cursor.{is_member_or_chain as is_member_or_chain_node, way_of as way_bits, is_write_place as is_write_place_role, read_or_type as read_or_type_bits, exported as exported_bits, equated as equated_bits, qualified as qualified_bits, typed_key as typed_key_bits, at_child as bits_at_child, cursor_before, cursor_behind, on_entering as bits_on_entering, on_leaving as bits_on_leaving};
+ghost use Rattle.semantic_model.specs.Cursor.{is_member_or_chain as is_member_or_chain_node, way_or_read as way_bits, is_write_place as is_write_place_role, read_or_type as read_or_type_bits, way_exported as exported_bits, equated as equated_bits, qualified as qualified_bits, typed_key as typed_key_bits, at_child as bits_at_child, cursor_before, cursor_behind, on_entering as bits_on_entering, on_leaving as bits_on_leaving};
 
 use crate::questions::reads;
 use semantic_kinds::class::{is_member, is_simple_target};

@@ -11,7 +11,7 @@ ghost use Rattle.semantic_tree.specs.BoundNames.{is_simple_parameter_list};
 ghost use Rattle.semantic_tree.specs.Views.{is, has, is_with_text};
 ghost use Rattle.semantic_model.specs.Place.{Place, no_scope, parent_holds};
 ghost use Rattle.semantic_model.specs.Binder as binder;
-ghost use Rattle.node_rules.specs.Seen.{IsRow, seen, under, path_of};
+ghost use Rattle.node_rules.specs.Seen.{IsBinderRow, seen, seen_under, parent_path};
 
 use crate::questions::reads;
 use semantic_syntax::{ScopeFlags, SourceType, SymbolFlags};
@@ -57,7 +57,7 @@ pub fn is_var_declaration(declaration: AstKind<'_>) -> bool
 /// Variables of a `var` declaration, which conflict with lexical ones (ECMAScript 14.2.1, 14.3.2, VarDeclaredNames;
 /// TypeScript's `FunctionScopedVariableExcludes`).
 pub fn var_row(declaration: AstKind<'_>) -> Row
-    ensures { IsRow result (union symbol.FunctionScopedVariable.bits
+    ensures { IsBinderRow result (union symbol.FunctionScopedVariable.bits
         (binder.marked_ambient declaration.entry.node.now))
         symbol.FunctionScopedVariableExcludes.bits }
 {
@@ -81,7 +81,7 @@ fn lexical_flags(declaration: AstKind<'_>) -> SymbolFlags
 /// Variables of a lexical declaration, which conflict with all that has a value (ECMAScript 14.2.1, 14.3.1.1, 16.1.1,
 /// LexicallyDeclaredNames; TypeScript 2451, `BlockScopedVariableExcludes`).
 pub fn lexical_row(declaration: AstKind<'_>) -> Row
-    ensures { IsRow result (union (binder.lexical_flags declaration.entry.node.now)
+    ensures { IsBinderRow result (union (binder.lexical_flags declaration.entry.node.now)
         (binder.marked_ambient declaration.entry.node.now))
         symbol.BlockScopedVariableExcludes.bits }
 {
@@ -137,7 +137,7 @@ fn function_flags(function: AstKind<'_>) -> SymbolFlags
 
 /// Whether the function stands directly under an `if` (ECMAScript, Annex B.3.3).
 fn is_under_if(parent: Option<AstKind<'_>>) -> bool
-    ensures { result ≡ parent_holds (is if_statement) (path_of parent.entry) }
+    ensures { result ≡ parent_holds (is if_statement) (parent_path parent.entry) }
 {
     match parent {
         Some(parent) => parent.ty() == AstType::IfStatement,
@@ -173,7 +173,7 @@ pub fn function_row(
     source_type: SourceType,
     flags: ScopeFlags,
 ) -> Row
-    ensures { IsRow result (binder.function_flags function.entry.node.now)
+    ensures { IsBinderRow result (binder.function_flags function.entry.node.now)
         (binder.function_excluded (seen source_type function.entry parent.entry flags)) }
 {
     Row {
@@ -205,7 +205,8 @@ pub fn may_move(function: AstKind<'_>, source_type: SourceType, flags: ScopeFlag
 /// A class, which is declared as lexical variables are (ECMAScript 14.2.1, 15.7.14; TypeScript 2300,
 /// `ClassExcludes`).
 pub fn class_row(class: AstKind<'_>) -> Row
-    ensures { IsRow result (union symbol.Class.bits (binder.marked_ambient class.entry.node.now))
+    ensures { IsBinderRow result
+        (union symbol.Class.bits (binder.marked_ambient class.entry.node.now))
         symbol.ClassExcludes.bits }
 {
     Row {
@@ -239,7 +240,7 @@ fn parameter_excluded(list: AstKind<'_>, is_simple: bool, flags: ScopeFlags) -> 
 /// A parameter of the list, which is simple or not, in a scope with the flags (ECMAScript 15.1.1, 15.2.1).
 pub fn parameter_row(list: AstKind<'_>, is_simple: bool, flags: ScopeFlags) -> Row
     ensures { is_simple ≡ is_simple_parameter_list list.entry.node.now
-        → IsRow result symbol.FunctionScopedVariable.bits
+        → IsBinderRow result symbol.FunctionScopedVariable.bits
         (binder.parameter_excluded list.entry.node.now
         (record no_scope { flags = flags.bits } ∷ [])) }
 {
@@ -252,7 +253,7 @@ pub fn parameter_row(list: AstKind<'_>, is_simple: bool, flags: ScopeFlags) -> R
 /// A rest element directly in a list of parameters, which isn't simple then, so that no name repeats (ECMAScript
 /// 15.1.1).
 pub fn rest_row() -> Row
-    ensures { IsRow result symbol.FunctionScopedVariable.bits
+    ensures { IsBinderRow result symbol.FunctionScopedVariable.bits
         (union symbol.FunctionScopedVariableExcludes.bits symbol.FunctionScopedVariable.bits) }
 {
     Row {
@@ -266,7 +267,8 @@ pub fn rest_row() -> Row
 /// A plain catch name, which conflicts with nothing before it: its scope has no other (ECMAScript 14.15.2,
 /// CatchClauseEvaluation).
 pub fn caught_row() -> Row
-    ensures { IsRow result (union symbol.FunctionScopedVariable.bits symbol.CatchVariable.bits) 0 }
+    ensures { IsBinderRow result
+        (union symbol.FunctionScopedVariable.bits symbol.CatchVariable.bits) 0 }
 {
     Row {
         flags: SymbolFlags::FunctionScopedVariable.union(SymbolFlags::CatchVariable),
@@ -276,7 +278,7 @@ pub fn caught_row() -> Row
 
 /// A name of a catch pattern, which no other of the pattern has (ECMAScript 14.15.1).
 pub fn catch_pattern_row() -> Row
-    ensures { IsRow result (union symbol.BlockScopedVariable.bits symbol.CatchVariable.bits)
+    ensures { IsBinderRow result (union symbol.BlockScopedVariable.bits symbol.CatchVariable.bits)
         symbol.BlockScopedVariableExcludes.bits }
 {
     Row {
@@ -287,7 +289,7 @@ pub fn catch_pattern_row() -> Row
 
 /// Whether the declaration of a specifier is marked as one of types.
 fn imports_types(declaration: Option<AstKind<'_>>) -> bool
-    ensures { result ≡ parent_holds (has type_only) (path_of declaration.entry) }
+    ensures { result ≡ parent_holds (has type_only) (parent_path declaration.entry) }
 {
     match declaration {
         Some(declaration) => declaration.has_mark(Mark::TypeOnly),
@@ -298,7 +300,7 @@ fn imports_types(declaration: Option<AstKind<'_>>) -> bool
 /// What an imported name is: a type alone where the specifier or its declaration is marked so, by TypeScript's
 /// `import type`.
 fn import_flags(specifier: AstKind<'_>, declaration: Option<AstKind<'_>>) -> SymbolFlags
-    ensures { result.bits ≡ binder.import_flags (under specifier.entry declaration.entry) }
+    ensures { result.bits ≡ binder.import_flags (seen_under specifier.entry declaration.entry) }
 {
     if specifier.has_mark(Mark::TypeOnly) || imports_types(declaration) {
         SymbolFlags::TypeImport
@@ -310,7 +312,8 @@ fn import_flags(specifier: AstKind<'_>, declaration: Option<AstKind<'_>>) -> Sym
 /// An imported name, which is declared once (ECMAScript 16.2.2.1, 16.2.1.1; TypeScript 2300 and 2440,
 /// `AliasExcludes`).
 pub fn import_row(specifier: AstKind<'_>, declaration: Option<AstKind<'_>>) -> Row
-    ensures { IsRow result (binder.import_flags (under specifier.entry declaration.entry))
+    ensures { IsBinderRow result
+        (binder.import_flags (seen_under specifier.entry declaration.entry))
         symbol.ImportBindingExcludes.bits }
 {
     Row {
@@ -321,7 +324,7 @@ pub fn import_row(specifier: AstKind<'_>, declaration: Option<AstKind<'_>>) -> R
 
 /// TypeScript's `import a = b` (`AliasExcludes`).
 pub fn import_equals_row() -> Row
-    ensures { IsRow result symbol.Import.bits symbol.ImportBindingExcludes.bits }
+    ensures { IsBinderRow result symbol.Import.bits symbol.ImportBindingExcludes.bits }
 {
     Row {
         flags: SymbolFlags::Import,
@@ -331,7 +334,7 @@ pub fn import_equals_row() -> Row
 
 /// A type alias (TypeScript 2300, `TypeAliasExcludes`).
 pub fn type_alias_row(alias: AstKind<'_>) -> Row
-    ensures { IsRow result (union symbol.TypeAlias.bits
+    ensures { IsBinderRow result (union symbol.TypeAlias.bits
         (binder.marked_ambient alias.entry.node.now)) symbol.TypeAliasExcludes.bits }
 {
     Row {
@@ -342,7 +345,7 @@ pub fn type_alias_row(alias: AstKind<'_>) -> Row
 
 /// An interface (TypeScript 2300, `InterfaceExcludes`).
 pub fn interface_row(interface: AstKind<'_>) -> Row
-    ensures { IsRow result (union symbol.Interface.bits
+    ensures { IsBinderRow result (union symbol.Interface.bits
         (binder.marked_ambient interface.entry.node.now)) symbol.InterfaceExcludes.bits }
 {
     Row {
@@ -372,7 +375,7 @@ pub fn enum_row(declaration: AstKind<'_>) -> Row
 
 /// A member of an enum (TypeScript 2300, `EnumMemberExcludes`).
 pub fn member_row() -> Row
-    ensures { IsRow result symbol.EnumMember.bits symbol.EnumMemberExcludes.bits }
+    ensures { IsBinderRow result symbol.EnumMember.bits symbol.EnumMemberExcludes.bits }
 {
     Row {
         flags: SymbolFlags::EnumMember,
@@ -382,7 +385,7 @@ pub fn member_row() -> Row
 
 /// A type parameter (TypeScript 2300, `TypeParameterExcludes`).
 pub fn type_parameter_row() -> Row
-    ensures { IsRow result symbol.TypeParameter.bits symbol.TypeParameterExcludes.bits }
+    ensures { IsBinderRow result symbol.TypeParameter.bits symbol.TypeParameterExcludes.bits }
 {
     Row {
         flags: SymbolFlags::TypeParameter,

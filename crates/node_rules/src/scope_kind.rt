@@ -6,7 +6,7 @@ ghost use Rattle.semantic_kinds.specs.declared.kind.AstType.TheVariants.{Directi
 ghost use Rattle.semantic_kinds.specs.declared.role.Role.TheVariants.{Value as value_role, Root as root_role};
 ghost use Rattle.semantic_syntax.specs.declared.scope_flags.TheConstants.ScopeFlags as scope;
 ghost use Rattle.semantic_syntax.specs.Sets.{union};
-ghost use Rattle.node_rules.specs.Seen.{path_of, in_role};
+ghost use Rattle.node_rules.specs.Seen.{parent_path, in_role};
 ghost use Rattle.semantic_tree.specs.Views.{is_with_text, has_use_strict as uses_strict};
 ghost use Rattle.semantic_model.specs.ScopeKind.{strict_if as strict_bits, strict_by_body as body_bits, accessor as accessor_bits, value_of, method_flags as method_bits, flags_of_kind};
 
@@ -94,7 +94,7 @@ fn value_flags(parent: AstKind<'_>, function: AstKind<'_>) -> ScopeFlags
 /// What a function in its role is as the value of its parent.
 fn method_flags(function: AstKind<'_>, role: Role, parent: Option<AstKind<'_>>) -> ScopeFlags
     ensures { result.bits ≡ cond (same_role role value_role)
-        (method_bits (path_of parent.entry) function.entry.node.now) 0 }
+        (method_bits (parent_path parent.entry) function.entry.node.now) 0 }
 {
     match parent {
         Some(parent) if role == Role::Value => value_flags(parent, function),

@@ -7,7 +7,7 @@ use Rattle.std.proofs.Math.Seq.{get_or-append_seam}
 use Rattle.semantic_tree.specs.declared.node.Node.{Node}
 use Rattle.node_store.specs.Entered.{no_flags}
 use Rattle.node_store.specs.NodeList.{NodeList, SeenNode, StandBefore}
-use Rattle.node_store.specs.Store.{IsCounted, Stands, path_kept, path_to, kept_with, back_from, kept_behind, after_entering, after_leaving}
+use Rattle.node_store.specs.Store.{IsCounted, IsWalked, path_kept, path_to, kept_with, back_from, kept_behind, after_entering, after_leaving}
 use Rattle.node_store.specs.declared.store.AstNodeStore.{AstNodeStore}
 use Rattle.node_store.specs.declared.store.AstNodeStoreKind.{AstNodeStoreKind}
 use Rattle.node_store.specs.declared.store.AstNodeStoreKind.TheVariants.{Full, Ancestry}
@@ -19,7 +19,7 @@ IsListed (Ancestry path) = ⊤
 
 -- a walk alone has entered and left nodes
 pub record IsFollowing (s : AstNodeStore) : Type 0 where
-  pub stands : Stands s
+  pub stands : IsWalked s
   pub listed : IsListed s.kind
 
 module _ (n count : ℕ) (node : Node) (scope : ℕ) where

@@ -8,7 +8,7 @@ use Rattle.semantic_tree.specs.declared.node.Node.{Node}
 use Rattle.node_store.specs.NodeList.{NodeList, SeenNode, IsNodeList, StandBefore, with_node}
 use Rattle.node_store.specs.Outward.{outward_within, outward, numbered_of, kinds_of}
 use Rattle.node_store.specs.PathIn.{path_in}
-use Rattle.node_store.specs.Store.{IsKept, IsCounted, path_kept}
+use Rattle.node_store.specs.Store.{NodeIsKept, IsCounted, path_kept}
 use Rattle.node_store.specs.declared.store.AstNodeStoreKind.{AstNodeStoreKind}
 use Rattle.node_store.specs.declared.store.AstNodeStoreKind.TheVariants.{Full, Ancestry}
 use Rattle.node_store.proofs.Paths.{some_first}
@@ -103,7 +103,7 @@ kept_in : (list : NodeList) (n k : ℕ) → k ≡ length list.nodes → n ≤ k 
 kept_in list n zero e le long = absurd (let short = ap length (no_path list n (sym e) (omega arith)) in omega arith)
 kept_in list n (suc k) e le long = omega arith
 
-pub is_kept : (n count : ℕ) (kept : AstNodeStoreKind) → IsCounted n count kept → 0 < length (path_kept n kept) → IsKept n kept
+pub is_kept : (n count : ℕ) (kept : AstNodeStoreKind) → IsCounted n count kept → 0 < length (path_kept n kept) → NodeIsKept n kept
 is_kept n count (Full list) h long = kept_in list n (length list.nodes) refl h.0 long
 is_kept n count (Ancestry path) h long = tt
 

@@ -8,13 +8,13 @@ use Rattle.node_store.specs.declared.bitset.AstTypesBitset.{AstTypesBitset}
 use Rattle.node_store.specs.declared.bitset.AstTypesIter.{AstTypesIter}
 
 -- the kind is set
-abbrev pub holds : AstTypesBitset → AstType → Bool
-holds set kind = get_or set.bits (tag_of the_kinds kind) false
+abbrev pub set_has_kind : AstTypesBitset → AstType → Bool
+set_has_kind set kind = get_or set.bits (tag_of the_kinds kind) false
 
 -- the kinds that are set, in their order
 abbrev pub kinds_in : AstTypesBitset → List AstType
-kinds_in set = filter (holds set) all_kinds
+kinds_in set = filter (set_has_kind set) all_kinds
 
 -- the kinds that are left
 abbrev pub kinds_left : AstTypesIter → List AstType
-kinds_left it = filter (holds it.set.now) it.left.now
+kinds_left it = filter (set_has_kind it.set.now) it.left.now

@@ -9,10 +9,10 @@ current_id_in [] = 0
 current_id_in (node ∷ rest) = node.node_id
 
 -- the parent of the node, or the node itself where it has none
-abbrev pub parent_in : List Node → Option Node
-parent_in [] = None
-parent_in (node ∷ []) = Some node
-parent_in (node ∷ parent ∷ rest) = Some parent
+abbrev pub parent_on_path : List Node → Option Node
+parent_on_path [] = None
+parent_on_path (node ∷ []) = Some node
+parent_on_path (node ∷ parent ∷ rest) = Some parent
 
 -- the id of the parent, or 0 where there is none
 abbrev pub parent_id_in : List Node → ℕ

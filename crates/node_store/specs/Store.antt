@@ -10,9 +10,9 @@ use Rattle.node_store.specs.declared.store.AstNodeStoreKind.{AstNodeStoreKind}
 use Rattle.node_store.specs.declared.store.AstNodeStoreKind.TheVariants.{Full, Ancestry}
 
 -- a full store holds the node
-abbrev pub IsKept : ℕ → AstNodeStoreKind → Type 0
-IsKept n (Full nodes) = n < length nodes.nodes
-IsKept n (Ancestry path) = ⊤
+abbrev pub NodeIsKept : ℕ → AstNodeStoreKind → Type 0
+NodeIsKept n (Full nodes) = n < length nodes.nodes
+NodeIsKept n (Ancestry path) = ⊤
 
 -- the path to the node
 abbrev pub path_kept : ℕ → AstNodeStoreKind → List Node
@@ -47,8 +47,8 @@ IsCounted n count (Full nodes) = (n ≤ length nodes.nodes - 1) × (count ≡ le
 IsCounted n count (Ancestry path) = length path ≤ count
 
 -- a walk alone has entered and left nodes
-abbrev pub Stands : AstNodeStore → Type 0
-Stands s = IsCounted s.current_node_id s.count s.kind
+abbrev pub IsWalked : AstNodeStore → Type 0
+IsWalked s = IsCounted s.current_node_id s.count s.kind
 
 -- what is kept with one more node of the id, below the one at which the walk stood
 abbrev pub kept_with : AstNodeStoreKind → Node → ℕ → ℕ → ℕ → AstNodeStoreKind

@@ -3,7 +3,7 @@ ghost use Rattle.std.specs.Prelude.{⊤, ◌≡◌, ◌<◌, Some, drop, length,
 ghost use Rattle.semantic_tree.specs.Nodes.{first_of};
 ghost use Rattle.std.specs.Iterator.{YieldsFirstBy, item_count};
 ghost use Rattle.node_store.specs.Left.{shown};
-ghost use Rattle.node_store.specs.Path.{current_id_in, parent_id_in, parent_in, from_asked, from_node, IsOn};
+ghost use Rattle.node_store.specs.Path.{current_id_in, parent_id_in, parent_on_path, from_asked, from_node, IsOn};
 ghost use Rattle.node_store.specs.PathLeft.{path_left};
 
 use crate::ancestors::AstNodeKindAncestorsIter;
@@ -78,7 +78,7 @@ impl<'n, 'a> AncestorKinds<'n, 'a> {
     /// What the second node shows, or the first where it stands alone.
     pub(crate) fn parent_kind(self) -> AstKind<'a>
         requires { 0 < length (path_left self) }
-        ensures { parent_in (path_left self.entry) ≡ Some result.node.now }
+        ensures { parent_on_path (path_left self.entry) ≡ Some result.node.now }
     {
         let mut left = self;
         let current = left.next().unwrap();

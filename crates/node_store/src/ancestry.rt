@@ -1,7 +1,7 @@
 //! The path to the current node, whichever way the store keeps it.
 ghost use Rattle.std.specs.Prelude.{◌≡◌, Some, drop};
 ghost use Rattle.semantic_tree.specs.Nodes.{first_of};
-ghost use Rattle.node_store.specs.Path.{current_id_in, parent_id_in, parent_in, from_asked, from_node, IsOn};
+ghost use Rattle.node_store.specs.Path.{current_id_in, parent_id_in, parent_on_path, from_asked, from_node, IsOn};
 ghost use Rattle.node_store.specs.PathLeft.{path_left};
 ghost use Rattle.node_store.specs.PathOf.{path_of, IsInStore, HasCurrent};
 
@@ -55,7 +55,7 @@ impl<'a, 'n> Ancestry<'a, 'n> {
     /// What the parent of the current node shows; where it has none, what this shows itself.
     pub fn parent_kind(self) -> AstKind<'a>
         requires { HasCurrent self }
-        ensures { parent_in (path_of self.entry) ≡ Some result.node.now }
+        ensures { parent_on_path (path_of self.entry) ≡ Some result.node.now }
     {
         match self {
             Ancestry::Nodes {

@@ -5,7 +5,7 @@ ghost use Rattle.std.specs.List.Sorted.{IsStrictlyIncreasing};
 ghost use Rattle.std.specs.Iterator.{YieldsFirst, item_count};
 ghost use Rattle.semantic_kinds.specs.declared.kind.AstType.{AstType};
 ghost use Rattle.semantic_kinds.specs.Kinds.{same_kind, kind_number};
-ghost use Rattle.node_store.specs.KindSets.{holds, kinds_in, kinds_left};
+ghost use Rattle.node_store.specs.KindSets.{set_has_kind, kinds_in, kinds_left};
 
 use semantic_kinds::kind::AstType;
 
@@ -18,14 +18,14 @@ pub struct AstTypesBitset {
 impl AstTypesBitset {
     /// The set without kinds.
     pub fn new() -> AstTypesBitset
-        ensures { (k : AstType) → holds result k ≡ false }
+        ensures { (k : AstType) → set_has_kind result k ≡ false }
     {
         AstTypesBitset { bits: [false; 190] }
     }
 
     /// The set of these kinds.
     pub fn from_types(types: &[AstType]) -> AstTypesBitset
-        ensures { (k : AstType) → holds result k ≡ list_any (same_kind k) types.now }
+        ensures { (k : AstType) → set_has_kind result k ≡ list_any (same_kind k) types.now }
     {
         let mut made = AstTypesBitset::new();
         for ty in types {
@@ -36,21 +36,22 @@ impl AstTypesBitset {
 
     /// Whether a kind is set.
     pub fn has(&self, ty: AstType) -> bool
-        ensures { result ≡ holds self.now ty }
+        ensures { result ≡ set_has_kind self.now ty }
     {
         self.bits[ty as usize]
     }
 
     /// Adds the kind to the set.
     pub fn set(&mut self, ty: AstType)
-        ensures { (k : AstType) → holds self.new k ≡ (holds self.old k || same_kind k ty) }
+        ensures { (k : AstType)
+            → set_has_kind self.new k ≡ (set_has_kind self.old k || same_kind k ty) }
     {
         self.bits[ty as usize] = true;
     }
 
     /// Whether both sets have some kind.
     pub fn intersects(&self, other: &AstTypesBitset) -> bool
-        ensures { result ≡ list_any (holds other.now) (kinds_in self.now) }
+        ensures { result ≡ list_any (set_has_kind other.now) (kinds_in self.now) }
     {
         for ty in self {
             if other.has(ty) {
@@ -62,7 +63,7 @@ impl AstTypesBitset {
 
     /// Whether this set has each kind of the other.
     pub fn contains(&self, other: &AstTypesBitset) -> bool
-        ensures { result ≡ list_all (holds self.now) (kinds_in other.now) }
+        ensures { result ≡ list_all (set_has_kind self.now) (kinds_in other.now) }
     {
         for ty in other {
             if !self.has(ty) {
@@ -87,7 +88,7 @@ impl AstTypesBitset {
 
 impl Default for AstTypesBitset {
     fn default() -> AstTypesBitset
-        ensures { (k : AstType) → holds result k ≡ false }
+        ensures { (k : AstType) → set_has_kind result k ≡ false }
     {
         AstTypesBitset::new()
     }

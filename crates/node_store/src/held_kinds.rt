@@ -2,7 +2,7 @@
 ghost use Rattle.std.specs.Prelude.{◌≡◌};
 ghost use Rattle.std.specs.List.{list_any, list_all};
 ghost use Rattle.semantic_kinds.specs.declared.kind.AstType.{AstType};
-ghost use Rattle.node_store.specs.KindSets.{holds, kinds_in};
+ghost use Rattle.node_store.specs.KindSets.{set_has_kind, kinds_in};
 ghost use Rattle.node_store.specs.HeldKinds.{has_kind};
 
 use crate::bitset::AstTypesBitset;
@@ -24,7 +24,7 @@ impl<'a> AstNodes<'a> {
 
     /// Whether some node has a kind of the set.
     pub fn contains_any(&self, set: &AstTypesBitset) -> bool
-        ensures { result ≡ list_any (λ s. holds set.now s.node.kind) self.now.nodes }
+        ensures { result ≡ list_any (λ s. set_has_kind set.now s.node.kind) self.now.nodes }
     {
         for node in self {
             if set.has(node.kind().ty()) {
@@ -44,7 +44,7 @@ impl<'a> AstNodes<'a> {
 
     /// The kinds of all nodes.
     fn kinds(&self) -> AstTypesBitset
-        ensures { (k : AstType) → holds result k ≡ has_kind self.now k }
+        ensures { (k : AstType) → set_has_kind result k ≡ has_kind self.now k }
     {
         let mut kinds = AstTypesBitset::new();
         for node in self {

@@ -2,7 +2,7 @@
 ghost use Rattle.std.specs.Prelude.{◌≡◌, ◌<◌, [], ◌∷◌, Some, OnOk, OnErr, drop, length, option_map};
 ghost use Rattle.semantic_tree.specs.ChildIter.{shown};
 ghost use Rattle.semantic_tree.specs.Nodes.{first_of};
-ghost use Rattle.node_store.specs.Path.{current_id_in, parent_id_in, parent_in, from_asked, from_node, IsOn};
+ghost use Rattle.node_store.specs.Path.{current_id_in, parent_id_in, parent_on_path, from_asked, from_node, IsOn};
 ghost use Rattle.node_store.specs.PathLeft.{path_left};
 
 use crate::ancestor_kinds::AncestorKinds;
@@ -126,7 +126,7 @@ impl<'a> AncestryStack<'a> {
     /// What the parent of the current node shows; of a single frame, what this shows itself.
     pub fn parent_kind(&self) -> AstKind<'a>
         requires { 0 < length self.now }
-        ensures { parent_in self.now ≡ Some result.node.now }
+        ensures { parent_on_path self.now ≡ Some result.node.now }
     {
         self.outward().parent_kind()
     }

@@ -3,7 +3,7 @@ ghost use Rattle.std.specs.Prelude.{◌≡◌, ◌+◌, ◌<◌, [], ◌∷◌, 
 ghost use Rattle.node_store.specs.Entered.{entering, leaving};
 ghost use Rattle.node_store.specs.PathLeft.{path_left};
 ghost use Rattle.node_store.specs.PathOf.{path_of, IsInStore};
-ghost use Rattle.node_store.specs.Store.{IsKept, IsCounted, Stands, path_kept, path_to, nodes_kept, emptied, entered_kept, entered_in, kept_with, kept_behind, back_from, after_entering, after_leaving};
+ghost use Rattle.node_store.specs.Store.{NodeIsKept, IsCounted, IsWalked, path_kept, path_to, nodes_kept, emptied, entered_kept, entered_in, kept_with, kept_behind, back_from, after_entering, after_leaving};
 
 use crate::ancestor_kinds::AncestorKinds;
 use crate::ancestry::Ancestry;
@@ -141,14 +141,14 @@ impl<'a> AstNodeStore<'a> {
     /// store the one where the walk stood as its parent; the root is its own. That the ids are used up is told as want
     /// of memory; a program has no more nodes than there are ids. For want of memory all is as before.
     pub fn enter(&mut self, kind: AstKind<'a>, scope: ScopeId) -> Result<(), AllocError>
-        requires { Stands self.old }
+        requires { IsWalked self.old }
         ensures ok { OnOk result (self.new ≡ after_entering self.old kind.entry.node.now scope) }
         ensures err { OnErr result (self.new ≡ self.old) }
         ensures path { OnOk result (path_to self.new ≡ kind.entry.node.now ∷ path_to self.old) }
         ensures entered { OnOk result
             (entered_in self.new
             ≡ option_map (λ e. entering e kind.entry.node.now scope) (entered_in self.old)) }
-        ensures stands { Stands self.new }
+        ensures stands { IsWalked self.new }
     {
         if self.count == u32::MAX {
             return Err(AllocError);
@@ -163,19 +163,19 @@ impl<'a> AstNodeStore<'a> {
     /// A walk leaves the node at which it stands: it stands at the parent again. Behind the root a full store stands at
     /// the root still, and a path is empty.
     pub fn leave(&mut self)
-        requires { Stands self.old }
+        requires { IsWalked self.old }
         ensures left { self.new ≡ after_leaving self.old }
         ensures path { 1 < length (path_to self.old)
             → path_to self.new ≡ drop 1 (path_to self.old) }
         ensures entered { entered_in self.new ≡ option_map leaving (entered_in self.old) }
-        ensures stands { Stands self.new }
+        ensures stands { IsWalked self.new }
     {
         self.current_node_id = self.kind.leave(self.count, self.current_node_id);
     }
 
     /// What the node at which the walk stands and those above it show, inner first.
     pub fn outward(&self) -> AncestorKinds<'_, 'a>
-        requires { IsKept self.now.current_node_id self.now.kind }
+        requires { NodeIsKept self.now.current_node_id self.now.kind }
         ensures { path_left result ≡ path_to self.now }
     {
         match &self.kind {
@@ -186,7 +186,7 @@ impl<'a> AstNodeStore<'a> {
 
     /// The path to the node at which the walk stands.
     pub fn ancestry(&self) -> Ancestry<'a, '_>
-        requires { IsKept self.now.current_node_id self.now.kind }
+        requires { NodeIsKept self.now.current_node_id self.now.kind }
         ensures path { path_of result ≡ path_to self.now }
         ensures store { IsInStore result }
     {

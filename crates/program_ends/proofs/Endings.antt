@@ -5,7 +5,7 @@ use Rattle.report_ends.specs.declared.error.ReportError.TheVariants as error
 use Rattle.program_ends.specs.Calls.{SourceCall, SinkCall, Unread, Untouched}
 use Rattle.program_ends.specs.Completeness.{IsDoneOrMemory, IsUsageOrMemory}
 use Rattle.program_ends.specs.Ending.{TellsEnd}
-use Rattle.program_ends.specs.Lines.{tree_line, line_of}
+use Rattle.program_ends.specs.Lines.{tree_line, line_on_error}
 use Rattle.program_ends.specs.Meaning.{End, done, found, memory, Answered, Stopped, end_of_stop, is_answer}
 use Rattle.program_ends.specs.Reads.{RefusedFor}
 use Rattle.program_ends.specs.Telling.{stop_of}
@@ -30,7 +30,7 @@ module _ {Input Cause : Type 0} (IsAsked IsRead : Type 0) (usage_line : List ℕ
 
 -- what stopped it is told
 pub ends_told : {Input : Type 0} (IsAsked IsRead : Type 0) (usage_line : List ℕ) (Gives : SourceCall → Input → Type 0) (Answers : End → Input → List ℕ → Type 0) (Refuses : Input → List ℕ → Type 0) (source : SourceCall) (out errs : SinkCall) (cause : ReportError) (end : End) → IsAsked
-    → Stopped IsRead Gives Answers source out cause → TellsEnd errs (line_of cause) (stop_of cause) end → Meant IsAsked IsRead usage_line Gives RefusedFor tree_line Answers Refuses source out errs end
+    → Stopped IsRead Gives Answers source out cause → TellsEnd errs (line_on_error cause) (stop_of cause) end → Meant IsAsked IsRead usage_line Gives RefusedFor tree_line Answers Refuses source out errs end
 ends_told IsAsked IsRead usage_line Gives Answers Refuses source out errs cause end asked why (told, is, tells) =
     subst (Meant IsAsked IsRead usage_line Gives RefusedFor tree_line Answers Refuses source out errs) (sym is) (means_told IsAsked IsRead usage_line Gives Answers Refuses source out errs cause told asked why tells)
 
@@ -52,5 +52,5 @@ pub wanting_ends : (errs : SinkCall) (line : List ℕ) (wanted : Stop) (end : En
 wanting_ends errs line wanted end wanting (told, is, inl whole) = is ∙ ap end_of_stop (whole.0 ∙ wanting)
 wanting_ends errs line wanted end wanting (told, is, inr part) = is ∙ ap end_of_stop part.0
 
-pub memory_ends : (errs : SinkCall) (cause : ReportError) (end : End) → cause ≡ error.Memory → TellsEnd errs (line_of cause) (stop_of cause) end → end ≡ memory
-memory_ends errs cause end wanting tells = wanting_ends errs (line_of cause) (stop_of cause) end (ap stop_of wanting) tells
+pub memory_ends : (errs : SinkCall) (cause : ReportError) (end : End) → cause ≡ error.Memory → TellsEnd errs (line_on_error cause) (stop_of cause) end → end ≡ memory
+memory_ends errs cause end wanting tells = wanting_ends errs (line_on_error cause) (stop_of cause) end (ap stop_of wanting) tells

@@ -9,7 +9,7 @@ use Rattle.program_ends.specs.Completeness.{IsClear, IsNotRefused, IsDoneOrMemor
 use Rattle.program_ends.specs.Ending.{TellsEnd}
 use Rattle.program_ends.specs.FindingEnds.{end_of}
 use Rattle.program_ends.specs.Findings.{FindingMeans, RefusesNone}
-use Rattle.program_ends.specs.Lines.{tree_line, line_of}
+use Rattle.program_ends.specs.Lines.{tree_line, line_on_error}
 use Rattle.program_ends.specs.Meaning.{End, Finds, is_answer}
 use Rattle.program_ends.specs.Reads.{Stands, RefusedFor}
 use Rattle.program_ends.specs.Telling.{stop_of}
@@ -35,7 +35,7 @@ module _ (IsAsked : Type 0) (Answers : End → Tree → List ℕ → Type 0) (so
         ends_answered IsAsked IsAsked usage_line (Finds Stands) RefusedFor tree_line Answers RefusesNone source out errs (end_of result) asked whole (answer (end_of result) whole.what whole.text whole.answers) untouched
 
     -- why it isn't is told
-    pub means_stopped : (cause : ReportError) (result : FindingStatus) → IsAsked → EndsBy {S = FindingStatus} end_of IsAsked (Finds Stands) Answers source out (Err cause) → TellsEnd errs (line_of cause) (stop_of cause) (end_of result) → FindingMeans IsAsked usage_line Answers source out errs result
+    pub means_stopped : (cause : ReportError) (result : FindingStatus) → IsAsked → EndsBy {S = FindingStatus} end_of IsAsked (Finds Stands) Answers source out (Err cause) → TellsEnd errs (line_on_error cause) (stop_of cause) (end_of result) → FindingMeans IsAsked usage_line Answers source out errs result
     means_stopped cause result asked why tells = ends_told IsAsked IsAsked usage_line (Finds Stands) Answers RefusesNone source out errs cause (end_of result) asked why tells
 
   -- ---- completeness
@@ -44,7 +44,7 @@ module _ (IsAsked : Type 0) (Answers : End → Tree → List ℕ → Type 0) (so
   answered_done result answer whole = answer_ends (end_of result) (answer (end_of result) whole.what whole.text whole.answers)
 
   pub clear_stopped : (errs : SinkCall) (cause : ReportError) (result : FindingStatus) → IsClear source out → ((input : List ℕ) (program : Tree) → source.left ≡ Some input → Stands input program → IsNotRefused cause) → EndsBy {S = FindingStatus} end_of IsAsked (Finds Stands) Answers source out (Err cause)
-      → TellsEnd errs (line_of cause) (stop_of cause) (end_of result) → IsDoneOrMemory (end_of result)
+      → TellsEnd errs (line_on_error cause) (stop_of cause) (end_of result) → IsDoneOrMemory (end_of result)
   clear_stopped errs cause result clear kept why tells =
       let wanting : cause ≡ error.Memory = clear_reading IsAsked (Finds Stands) Answers source out cause clear (kept clear.input clear.program clear.told clear.stands) why in
       subst IsDoneOrMemory (sym (memory_ends errs cause (end_of result) wanting tells)) tt

@@ -5,16 +5,16 @@ use Rattle.report_ends.specs.Causes.{Rose}
 use Rattle.report_ends.specs.declared.error.ReportError.{ReportError}
 use Rattle.report_ends.specs.declared.error.ReportError.TheVariants as error
 use Rattle.program_ends.specs.Calls.{SourceCall, SinkCall, sink_call, Unread, Untouched}
-use Rattle.program_ends.specs.Lines.{tree_line, line_of, too_long_line, read_line, write_line, memory_line}
+use Rattle.program_ends.specs.Lines.{tree_line, line_on_error, too_long_line, read_line, write_line, memory_line}
 use Rattle.program_ends.specs.Reads.{RefusedFor}
-use Rattle.program_ends.specs.Telling.{Told, Tells, stop_of}
+use Rattle.program_ends.specs.Telling.{IsLineTold, TellsAtEnd, stop_of}
 use Rattle.program_ends.specs.Meaning.{End, NotFound, Refused, AnsweredPart, Stopped, MayTell, of_usage, of_input, of_length, of_reading, of_writing, of_memory, MeansOf, end_of_stop}
 use Rattle.program_ends.specs.Completeness.{IsClear, IsNotRefused}
 use Rattle.program_ends.specs.declared.stops.Stop.{Stop}
 use Rattle.program_ends.specs.declared.stops.Stop.TheVariants as stop
 
 -- a line that was told, or a prefix of it, is a prefix of it
-pub part_told : (errs : SinkCall) (line : List ℕ) → Told errs line → AppendsPrefix errs.held errs.held_then line
+pub part_told : (errs : SinkCall) (line : List ℕ) → IsLineTold errs line → AppendsPrefix errs.held errs.held_then line
 part_told errs line (inl whole) = ([], record { part = line; appended = whole; whole = append-nil line })
 part_told errs line (inr part) = part.0
 
@@ -48,32 +48,32 @@ module _ {Input Cause : Type 0} (IsAsked IsRead : Type 0) (usage_line : List ℕ
   MayBeTold = MayTell IsAsked IsRead usage_line Gives RefusedFor cause_line Answers Refuses
 
   -- a line is told, or memory was wanting
-  by_line : (line : List ℕ) (wanted told : Stop) → MayBeTold line → IsRead ⊎ Unread source → Untouched out ⊎ (IsAsked × AnsweredPart Gives Answers source out) → (Told errs line → Meant (end_of_stop wanted)) → Tells errs line wanted told → Meant (end_of_stop told)
+  by_line : (line : List ℕ) (wanted told : Stop) → MayBeTold line → IsRead ⊎ Unread source → Untouched out ⊎ (IsAsked × AnsweredPart Gives Answers source out) → (IsLineTold errs line → Meant (end_of_stop wanted)) → TellsAtEnd errs line wanted told → Meant (end_of_stop told)
   by_line line wanted told may read part means (inl whole) = subst (λ s. Meant (end_of_stop s)) (sym whole.0) (means whole.1)
   by_line line wanted told may read part means (inr prefix) = subst (λ s. Meant (end_of_stop s)) (sym prefix.0) (read, part, (line, may, prefix.1))
 
   -- the words are refused
-  pub means_usage : (told : Stop) → (IsAsked → ⊥) → Unread source → Untouched out → Tells errs usage_line stop.Usage told → Meant (end_of_stop told)
+  pub means_usage : (told : Stop) → (IsAsked → ⊥) → Unread source → Untouched out → TellsAtEnd errs usage_line stop.Usage told → Meant (end_of_stop told)
   means_usage told not_asked unread untouched tells = by_line usage_line stop.Usage told of_usage (inr unread) (inl untouched) (λ line. (not_asked, unread, untouched, line)) tells
 
   -- the input is refused
-  pub means_refused : (cause : Cause) (told : Stop) → IsRead → Refused RefusedFor source cause → Untouched out → Tells errs (cause_line cause) stop.Tree told → Meant (end_of_stop told)
+  pub means_refused : (cause : Cause) (told : Stop) → IsRead → Refused RefusedFor source cause → Untouched out → TellsAtEnd errs (cause_line cause) stop.Tree told → Meant (end_of_stop told)
   means_refused cause told read why untouched tells = by_line (cause_line cause) stop.Tree told (of_input cause) (inl read) (inl untouched) (λ line. (read, untouched, (cause, why, line))) tells
 
-  pub means_too_long : (told : Stop) → IsRead → HadMoreThan 67108864 source.left → Untouched out → Tells errs too_long_line stop.TooLong told → Meant (end_of_stop told)
+  pub means_too_long : (told : Stop) → IsRead → HadMoreThan 67108864 source.left → Untouched out → TellsAtEnd errs too_long_line stop.TooLong told → Meant (end_of_stop told)
   means_too_long told read longer untouched tells = by_line too_long_line stop.TooLong told of_length (inl read) (inl untouched) (λ line. (read, longer, untouched, line)) tells
 
-  pub means_unread : (told : Stop) → IsRead → Rose source.faults source.faults_then → Untouched out → Tells errs read_line stop.Read told → Meant (end_of_stop told)
+  pub means_unread : (told : Stop) → IsRead → Rose source.faults source.faults_then → Untouched out → TellsAtEnd errs read_line stop.Read told → Meant (end_of_stop told)
   means_unread told read rose untouched tells = by_line read_line stop.Read told of_reading (inl read) (inl untouched) (λ line. (read, rose, untouched, line)) tells
 
-  pub means_unwritten : (told : Stop) → IsAsked → IsRead ⊎ Unread source → Rose out.faults out.faults_then → AnsweredPart Gives Answers source out → Tells errs write_line stop.Write told → Meant (end_of_stop told)
+  pub means_unwritten : (told : Stop) → IsAsked → IsRead ⊎ Unread source → Rose out.faults out.faults_then → AnsweredPart Gives Answers source out → TellsAtEnd errs write_line stop.Write told → Meant (end_of_stop told)
   means_unwritten told asked read rose part tells = by_line write_line stop.Write told of_writing read (inr (asked, part)) (λ line. (asked, rose, part, line)) tells
 
   part_asked : IsAsked → Untouched out ⊎ AnsweredPart Gives Answers source out → Untouched out ⊎ (IsAsked × AnsweredPart Gives Answers source out)
   part_asked asked (inl untouched) = inl untouched
   part_asked asked (inr part) = inr (asked, part)
 
-  pub means_memory : (told : Stop) → IsAsked → IsRead ⊎ Unread source → Untouched out ⊎ AnsweredPart Gives Answers source out → Tells errs memory_line stop.Memory told → Meant (end_of_stop told)
+  pub means_memory : (told : Stop) → IsAsked → IsRead ⊎ Unread source → Untouched out ⊎ AnsweredPart Gives Answers source out → TellsAtEnd errs memory_line stop.Memory told → Meant (end_of_stop told)
   means_memory told asked read part tells =
       by_line memory_line stop.Memory told of_memory read (part_asked asked part) (λ line. (read, part_asked asked part, (memory_line, of_memory, part_told errs memory_line line))) tells
 
@@ -82,7 +82,7 @@ module _ {Input : Type 0} (IsAsked IsRead : Type 0) (usage_line : List ℕ) (Giv
   MeantHere = Meant IsAsked IsRead usage_line Gives RefusedFor tree_line Answers Refuses source out errs
 
   -- what stopped it is told
-  pub means_told : (cause : ReportError) (told : Stop) → IsAsked → Stopped IsRead Gives Answers source out cause → Tells errs (line_of cause) (stop_of cause) told → MeantHere (end_of_stop told)
+  pub means_told : (cause : ReportError) (told : Stop) → IsAsked → Stopped IsRead Gives Answers source out cause → TellsAtEnd errs (line_on_error cause) (stop_of cause) told → MeantHere (end_of_stop told)
   means_told (error.Tree refusal) told asked why tells = means_refused IsAsked IsRead usage_line Gives RefusedFor tree_line Answers Refuses source out errs refusal told why.0 why.1 why.2 tells
   means_told error.TooLong told asked why tells = means_too_long IsAsked IsRead usage_line Gives RefusedFor tree_line Answers Refuses source out errs told why.0 why.1 why.2 tells
   means_told error.Read told asked why tells = means_unread IsAsked IsRead usage_line Gives RefusedFor tree_line Answers Refuses source out errs told why.0 why.1 why.2 tells

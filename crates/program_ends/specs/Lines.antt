@@ -39,9 +39,9 @@ abbrev pub write_line : List ℕ
 write_line = codes "write failed\n"
 
 -- the line on an error
-abbrev pub line_of : ReportError → List ℕ
-line_of (error.Tree cause) = tree_line cause
-line_of error.TooLong = too_long_line
-line_of error.Read = read_line
-line_of error.Write = write_line
-line_of error.Memory = memory_line
+abbrev pub line_on_error : ReportError → List ℕ
+line_on_error (error.Tree cause) = tree_line cause
+line_on_error error.TooLong = too_long_line
+line_on_error error.Read = read_line
+line_on_error error.Write = write_line
+line_on_error error.Memory = memory_line

@@ -8,7 +8,7 @@ use Rattle.report_ends.specs.declared.error.ReportError.TheVariants as error
 use Rattle.program_ends.specs.Calls.{SourceCall, SinkCall, Unread, Untouched}
 use Rattle.program_ends.specs.Lines.{too_long_line, read_line, write_line, memory_line}
 use Rattle.program_ends.specs.Reads.{RefusedFor}
-use Rattle.program_ends.specs.Telling.{Told}
+use Rattle.program_ends.specs.Telling.{IsLineTold}
 use Rattle.program_ends.specs.declared.stops.Stop.{Stop}
 use Rattle.program_ends.specs.declared.stops.Stop.TheVariants as stop
 
@@ -113,13 +113,13 @@ module _ {Input Cause : Type 0} (IsAsked IsRead : Type 0) (usage_line : List ℕ
   abbrev pub MeansOf : SourceCall → SinkCall → SinkCall → End → Type 0
   MeansOf source out errs done = IsAsked × Answered Gives Answers source out done × Untouched errs
   MeansOf source out errs found = IsAsked × Answered Gives Answers source out found × Untouched errs
-  MeansOf source out errs usage = (IsAsked → ⊥) × Unread source × Untouched out × Told errs usage_line
-  MeansOf source out errs input = IsRead × Untouched out × ((cause : Cause) × Refused RefusedFor source cause × Told errs (cause_line cause))
-  MeansOf source out errs too_long = IsRead × HadMoreThan 67108864 source.left × Untouched out × Told errs too_long_line
-  MeansOf source out errs read = IsRead × Rose source.faults source.faults_then × Untouched out × Told errs read_line
-  MeansOf source out errs write = IsAsked × Rose out.faults out.faults_then × AnsweredPart Gives Answers source out × Told errs write_line
+  MeansOf source out errs usage = (IsAsked → ⊥) × Unread source × Untouched out × IsLineTold errs usage_line
+  MeansOf source out errs input = IsRead × Untouched out × ((cause : Cause) × Refused RefusedFor source cause × IsLineTold errs (cause_line cause))
+  MeansOf source out errs too_long = IsRead × HadMoreThan 67108864 source.left × Untouched out × IsLineTold errs too_long_line
+  MeansOf source out errs read = IsRead × Rose source.faults source.faults_then × Untouched out × IsLineTold errs read_line
+  MeansOf source out errs write = IsAsked × Rose out.faults out.faults_then × AnsweredPart Gives Answers source out × IsLineTold errs write_line
   MeansOf source out errs memory = (IsRead ⊎ Unread source) × (Untouched out ⊎ (IsAsked × AnsweredPart Gives Answers source out)) × ToldPart errs
-  MeansOf source out errs refused = IsAsked × Untouched out × ((what : Input) × Gives source what × ((line : List ℕ) × Refuses what line × Told errs line))
+  MeansOf source out errs refused = IsAsked × Untouched out × ((what : Input) × Gives source what × ((line : List ℕ) × Refuses what line × IsLineTold errs line))
 
 -- the same of a program that reads its input whatever it is asked
 abbrev pub Means : {Input Cause : Type 0} → Type 0 → List ℕ → (List ℕ → Input → Type 0) → (List ℕ → Cause → Type 0) → (Cause → List ℕ) → (End → Input → List ℕ → Type 0) → (Input → List ℕ → Type 0) → SourceCall → SinkCall → SinkCall → End → Type 0

@@ -11,17 +11,17 @@ use Rattle.program_ends.specs.declared.stops.Stop.{Stop}
 use Rattle.program_ends.specs.declared.stops.Stop.TheVariants as stop
 
 -- the sink has taken the line, or a prefix of it where it failed
-abbrev pub Told : SinkCall → List ℕ → Type 0
-Told errs line = Appends errs.held errs.held_then line ⊎ (AppendsPrefix errs.held errs.held_then line × Rose errs.faults errs.faults_then)
+abbrev pub IsLineTold : SinkCall → List ℕ → Type 0
+IsLineTold errs line = Appends errs.held errs.held_then line ⊎ (AppendsPrefix errs.held errs.held_then line × Rose errs.faults errs.faults_then)
 
 -- the line was told, or memory was wanting, and the sink has taken a prefix of it
 abbrev pub TellsLine : SinkCall → List ℕ → Result Unit AllocError → Type 0
-TellsLine errs line (Ok done) = Told errs line
+TellsLine errs line (Ok done) = IsLineTold errs line
 TellsLine errs line (Err wanting) = AppendsPrefix errs.held errs.held_then line
 
 -- the line was told and this is the stop, or memory was wanting
-abbrev pub Tells : SinkCall → List ℕ → Stop → Stop → Type 0
-Tells errs line wanted result = ((result ≡ wanted) × Told errs line) ⊎ ((result ≡ stop.Memory) × AppendsPrefix errs.held errs.held_then line)
+abbrev pub TellsAtEnd : SinkCall → List ℕ → Stop → Stop → Type 0
+TellsAtEnd errs line wanted result = ((result ≡ wanted) × IsLineTold errs line) ⊎ ((result ≡ stop.Memory) × AppendsPrefix errs.held errs.held_then line)
 
 -- at which stop an error ends a program
 abbrev pub stop_of : ReportError → Stop

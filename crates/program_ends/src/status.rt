@@ -2,7 +2,7 @@
 ghost use Rattle.std.specs.Prelude.{◌≡◌};
 ghost use Rattle.program_ends.specs.Calls.{sink_call};
 ghost use Rattle.program_ends.specs.Ending.{TellsEnd, Finishes};
-ghost use Rattle.program_ends.specs.Lines.{line_of};
+ghost use Rattle.program_ends.specs.Lines.{line_on_error};
 ghost use Rattle.program_ends.specs.Telling.{stop_of};
 
 use crate::stops::{Stop, tell_error, tell_stop};
@@ -28,7 +28,7 @@ pub trait Status: Copy {
 /// Tells an error's line, and answers its status, or that memory is wanting. The sink has taken a prefix of the line
 /// then, and also where it failed.
 pub fn tell<S: Status, E: Sink>(alloc: Global, error: &ReportError, errs: &mut E) -> S
-    ensures { TellsEnd (sink_call E.held E.faults errs.old errs.new) (line_of error.now)
+    ensures { TellsEnd (sink_call E.held E.faults errs.old errs.new) (line_on_error error.now)
         (stop_of error.now) (S.end_of result) }
 {
     S::of_stop(tell_error(alloc, error, errs))

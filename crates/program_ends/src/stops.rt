@@ -1,8 +1,8 @@
 //! Tells why a program stopped.
 ghost use Rattle.std.specs.Prelude.{◌≡◌, IfOk, string_bytes, ◌++◌};
 ghost use Rattle.program_ends.specs.Calls.{sink_call};
-ghost use Rattle.program_ends.specs.Lines.{numbered_line, span_line, tree_line, line_of};
-ghost use Rattle.program_ends.specs.Telling.{TellsLine, Tells, stop_of};
+ghost use Rattle.program_ends.specs.Lines.{numbered_line, span_line, tree_line, line_on_error};
+ghost use Rattle.program_ends.specs.Telling.{TellsLine, TellsAtEnd, stop_of};
 
 use report_ends::{ReportError, Sink, write_whole};
 use semantic_tree::{SpanFault, TreeError};
@@ -37,7 +37,7 @@ pub fn tell_line<E: Sink>(line: &str, errs: &mut E) -> Result<(), AllocError>
 
 /// Tells a line, and answers the stop, or that memory is wanting.
 pub fn tell_stop<E: Sink>(line: &str, stop: Stop, errs: &mut E) -> Stop
-    ensures { Tells (sink_call E.held E.faults errs.old errs.new) line.now stop result }
+    ensures { TellsAtEnd (sink_call E.held E.faults errs.old errs.new) line.now stop result }
 {
     match tell_line(line, errs) {
         Ok(()) => stop,
@@ -93,7 +93,7 @@ pub fn tree_line(alloc: Global, cause: &TreeError) -> Result<String, AllocError>
 }
 
 fn error_line(alloc: Global, error: &ReportError) -> Result<String, AllocError>
-    ensures { IfOk result (λ line. string_bytes line ≡ line_of error.now) }
+    ensures { IfOk result (λ line. string_bytes line ≡ line_on_error error.now) }
 {
     match error {
         ReportError::Tree(cause) => tree_line(alloc, cause),
@@ -107,7 +107,7 @@ fn error_line(alloc: Global, error: &ReportError) -> Result<String, AllocError>
 /// Tells an error's line, and answers its stop, or that memory is wanting. The sink has taken a prefix of the line
 /// then, and also where it failed.
 pub(crate) fn tell_error<E: Sink>(alloc: Global, error: &ReportError, errs: &mut E) -> Stop
-    ensures { Tells (sink_call E.held E.faults errs.old errs.new) (line_of error.now)
+    ensures { TellsAtEnd (sink_call E.held E.faults errs.old errs.new) (line_on_error error.now)
         (stop_of error.now) result }
 {
     match error_line(alloc, error) {

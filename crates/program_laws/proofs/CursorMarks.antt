@@ -13,7 +13,7 @@ use Rattle.semantic_syntax.specs.declared.reference_flags.TheConstants.Reference
 use Rattle.semantic_tree.specs.Forest.{Forest, nothing, tree}
 use Rattle.semantic_tree.specs.declared.node.Node.{Node}
 use Rattle.semantic_model.specs.Ambient.{ambient_inside, ambient_round}
-use Rattle.semantic_model.specs.Cursor.{read_or_type, written, typed_key, at_child, cursor_before, cursor_behind, on_entering, on_leaving, cursor_after, is_member_or_chain}
+use Rattle.semantic_model.specs.Cursor.{read_or_type, way_written, typed_key, at_child, cursor_before, cursor_behind, on_entering, on_leaving, cursor_after, is_member_or_chain}
 use Rattle.semantic_tree.specs.KindGroups.{is_wrapper}
 use Rattle.semantic_tree.specs.Unwrapped.{unwrapped_in, inner_expression}
 use Rattle.semantic_tree.specs.Views.{is, has_text}
@@ -81,7 +81,7 @@ module _ (f : Node → Marks) where
     at_child_same _ parent ambient r child cursor = refl
 
     pub before_same : (parent : Node) (ambient : Bool) (r : Role) (child : Node) (cursor : ℕ) → cursor_before (remarked_node f parent) ambient r (remarked_node f child) cursor ≡ cursor_before parent ambient r child cursor
-    before_same parent ambient r child cursor = ap (written parent.kind r child) (at_child_same parent.kind parent ambient r child cursor)
+    before_same parent ambient r child cursor = ap (way_written parent.kind r child) (at_child_same parent.kind parent ambient r child cursor)
 
     -- the cursor on coming to a child
     pub coming_same : (parent : Node) (around : Bool) (r : Role) (child : Node) (cursor : ℕ) → cursor_before (remarked_node f parent) (ambient_inside (remarked_node f parent) around) r (remarked_node f child) cursor ≡ cursor_before parent (ambient_inside parent around) r child cursor

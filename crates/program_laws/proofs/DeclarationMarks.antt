@@ -13,7 +13,7 @@ use Rattle.semantic_syntax.specs.Sets.{union}
 use Rattle.semantic_syntax.specs.SourceTypes.{is_typescript}
 use Rattle.semantic_syntax.specs.declared.symbol_flags.TheConstants.SymbolFlags as symbol
 use Rattle.semantic_tree.specs.declared.node.Node.{Node}
-use Rattle.semantic_model.specs.Binder.{Row, declare, declare_here, ids, ambient_if, marked_ambient, is_var, is_conditional, is_pure_function, is_pure_declarator, lexical_flags, variable_row, variables_under, is_statement, is_special, function_flags, is_clause, function_row, own_function_row, class_row, parameter_excluded, parameters_under, catch_names, import_flags, imports, enums, member_names, named_member, member_named, members, namespace_row, type_parameter_row, declared_by, declared_inside}
+use Rattle.semantic_model.specs.Binder.{BinderRow, declaration_at, declare_here, ids, ambient_if, marked_ambient, is_var, is_conditional, is_pure_function, is_pure_declarator, lexical_flags, variable_row, variables_under, is_statement, is_special, function_flags, is_clause, function_row, own_function_row, class_row, parameter_excluded, parameters_under, catch_names, import_flags, import_declarations, enums, member_names, named_member, member_named, member_declarations, namespace_row, type_parameter_row, declared_by, declared_inside}
 use Rattle.semantic_model.specs.Declaration.{plain, hoisted, moved, caught, here, outward_to, outward_past}
 use Rattle.semantic_model.specs.Names.{bound_names, names_at}
 use Rattle.semantic_model.specs.Namespace.{InstanceState, non_instantiated, const_enum_only, instantiated, instance_state, nodes_around}
@@ -29,17 +29,17 @@ use Rattle.program_laws.specs.Remarked.{remarked_node}
 
 module _ (f : Node → Marks) where
   -- names that are declared at a node
-  pub rows_same : (node : Node) (row : Row) (is_pure : Bool) (xs : List Node) → map (declare (remarked_node f node) row is_pure) (map (remarked_node f) xs) ≡ map (declare node row is_pure) xs
+  pub rows_same : (node : Node) (row : BinderRow) (is_pure : Bool) (xs : List Node) → map (declaration_at (remarked_node f node) row is_pure) (map (remarked_node f) xs) ≡ map (declaration_at node row is_pure) xs
   rows_same node row is_pure [] = refl
-  rows_same node row is_pure (x ∷ xs) = ap (λ ds. declare node row is_pure x ∷ ds) (rows_same node row is_pure xs)
+  rows_same node row is_pure (x ∷ xs) = ap (λ ds. declaration_at node row is_pure x ∷ ds) (rows_same node row is_pure xs)
 
-  pub at_role : (r : Role) (node : Node) (row : Row) (is_pure : Bool) → map (declare (remarked_node f node) row is_pure) (names_at r (remarked_node f node)) ≡ map (declare node row is_pure) (names_at r node)
-  at_role r node row is_pure = ap (map (declare (remarked_node f node) row is_pure)) (names_same f r node) ∙ rows_same node row is_pure (names_at r node)
+  pub at_role : (r : Role) (node : Node) (row : BinderRow) (is_pure : Bool) → map (declaration_at (remarked_node f node) row is_pure) (names_at r (remarked_node f node)) ≡ map (declaration_at node row is_pure) (names_at r node)
+  at_role r node row is_pure = ap (map (declaration_at (remarked_node f node) row is_pure)) (names_same f r node) ∙ rows_same node row is_pure (names_at r node)
 
-  bound_rows : (node : Node) (row : Row) (is_pure : Bool) → map (declare (remarked_node f node) row is_pure) (bound_names (remarked_node f node)) ≡ map (declare node row is_pure) (bound_names node)
-  bound_rows node row is_pure = ap (map (declare (remarked_node f node) row is_pure)) (bound_same f node) ∙ rows_same node row is_pure (bound_names node)
+  bound_rows : (node : Node) (row : BinderRow) (is_pure : Bool) → map (declaration_at (remarked_node f node) row is_pure) (bound_names (remarked_node f node)) ≡ map (declaration_at node row is_pure) (bound_names node)
+  bound_rows node row is_pure = ap (map (declaration_at (remarked_node f node) row is_pure)) (bound_same f node) ∙ rows_same node row is_pure (bound_names node)
 
-  abbrev here_row : Place → ℕ → ℕ → Row
+  abbrev here_row : Place → ℕ → ℕ → BinderRow
   here_row p flags excluded = record { flags = flags; excluded = excluded; how = plain; route = here p.chain }
 
   -- a test of the parent
@@ -68,13 +68,13 @@ module _ (f : Node → Marks) where
   catch_same : (p : Place) (x : Node) → catch_names (remarked_place f p) (remarked_node f x) ≡ catch_names p x
   catch_same p x = go (is kind.BindingIdentifier x)
     where
-      row : Row
+      row : BinderRow
       row = record { flags = union symbol.FunctionScopedVariable.bits symbol.CatchVariable.bits; excluded = 0; how = caught; route = here p.chain }
 
       flags : ℕ
       flags = union symbol.BlockScopedVariable.bits symbol.CatchVariable.bits
 
-      go : (b : Bool) → (if b then declare (remarked_node f p.node) (record { flags = union symbol.FunctionScopedVariable.bits symbol.CatchVariable.bits; excluded = 0; how = caught; route = here p.chain }) false (remarked_node f x) ∷ [] else declare_here (remarked_place f p) (union symbol.BlockScopedVariable.bits symbol.CatchVariable.bits) symbol.BlockScopedVariableExcludes.bits (bound_names (remarked_node f x))) ≡ (if b then declare p.node (record { flags = union symbol.FunctionScopedVariable.bits symbol.CatchVariable.bits; excluded = 0; how = caught; route = here p.chain }) false x ∷ [] else declare_here p (union symbol.BlockScopedVariable.bits symbol.CatchVariable.bits) symbol.BlockScopedVariableExcludes.bits (bound_names x))
+      go : (b : Bool) → (if b then declaration_at (remarked_node f p.node) (record { flags = union symbol.FunctionScopedVariable.bits symbol.CatchVariable.bits; excluded = 0; how = caught; route = here p.chain }) false (remarked_node f x) ∷ [] else declare_here (remarked_place f p) (union symbol.BlockScopedVariable.bits symbol.CatchVariable.bits) symbol.BlockScopedVariableExcludes.bits (bound_names (remarked_node f x))) ≡ (if b then declaration_at p.node (record { flags = union symbol.FunctionScopedVariable.bits symbol.CatchVariable.bits; excluded = 0; how = caught; route = here p.chain }) false x ∷ [] else declare_here p (union symbol.BlockScopedVariable.bits symbol.CatchVariable.bits) symbol.BlockScopedVariableExcludes.bits (bound_names x))
       go true = refl
       go false = ap (declare_here (remarked_place f p) (union symbol.BlockScopedVariable.bits symbol.CatchVariable.bits) symbol.BlockScopedVariableExcludes.bits) (bound_same f x) ∙ rows_same p.node (here_row p (union symbol.BlockScopedVariable.bits symbol.CatchVariable.bits) symbol.BlockScopedVariableExcludes.bits) false (bound_names x)
 
@@ -103,21 +103,21 @@ module _ (f : Node → Marks) where
       go false true = ap (filter (is kind.TemplateElement)) (children_same f role.Quasis id.children) ∙ pieces_same (children_of role.Quasis id.children)
       go false false = refl
 
-  member_rows : (member id : Node) (row : Row) (xs : List Node) → map (declare (remarked_node f member) row false) (map (named_member (remarked_node f member) (remarked_node f id)) (map (remarked_node f) xs)) ≡ map (declare member row false) (map (named_member member id) xs)
+  member_rows : (member id : Node) (row : BinderRow) (xs : List Node) → map (declaration_at (remarked_node f member) row false) (map (named_member (remarked_node f member) (remarked_node f id)) (map (remarked_node f) xs)) ≡ map (declaration_at member row false) (map (named_member member id) xs)
   member_rows member id row [] = refl
-  member_rows member id row (x ∷ xs) = ap (λ ds. declare member row false (named_member member id x) ∷ ds) (member_rows member id row xs)
+  member_rows member id row (x ∷ xs) = ap (λ ds. declaration_at member row false (named_member member id x) ∷ ds) (member_rows member id row xs)
 
-  all_members : (member : Node) (row : Row) (xs : List Node) → map (declare (remarked_node f member) row false) (flat_map (member_named (remarked_node f member)) (map (remarked_node f) xs)) ≡ map (declare member row false) (flat_map (member_named member) xs)
+  all_members : (member : Node) (row : BinderRow) (xs : List Node) → map (declaration_at (remarked_node f member) row false) (flat_map (member_named (remarked_node f member)) (map (remarked_node f) xs)) ≡ map (declaration_at member row false) (flat_map (member_named member) xs)
   all_members member row [] = refl
   all_members member row (x ∷ xs) =
-      map_append (declare (remarked_node f member) row false) (member_named (remarked_node f member) (remarked_node f x)) (flat_map (member_named (remarked_node f member)) (map (remarked_node f) xs))
-      ∙ (λ i. (ap (λ ns. map (declare (remarked_node f member) row false) (map (named_member (remarked_node f member) (remarked_node f x)) ns)) (member_names_same x) ∙ member_rows member x row (member_names x)) i ++ all_members member row xs i)
-      ∙ sym (map_append (declare member row false) (member_named member x) (flat_map (member_named member) xs))
+      map_append (declaration_at (remarked_node f member) row false) (member_named (remarked_node f member) (remarked_node f x)) (flat_map (member_named (remarked_node f member)) (map (remarked_node f) xs))
+      ∙ (λ i. (ap (λ ns. map (declaration_at (remarked_node f member) row false) (map (named_member (remarked_node f member) (remarked_node f x)) ns)) (member_names_same x) ∙ member_rows member x row (member_names x)) i ++ all_members member row xs i)
+      ∙ sym (map_append (declaration_at member row false) (member_named member x) (flat_map (member_named member) xs))
 
-  members_same : (p : Place) → members (remarked_place f p) ≡ members p
+  members_same : (p : Place) → member_declarations (remarked_place f p) ≡ member_declarations p
   members_same p =
-      let row : Row = here_row p symbol.EnumMember.bits symbol.EnumMemberExcludes.bits in
-      ap (λ ns. map (declare (remarked_node f p.node) row false) (flat_map (member_named (remarked_node f p.node)) ns)) (children_same f role.Id p.node.children)
+      let row : BinderRow = here_row p symbol.EnumMember.bits symbol.EnumMemberExcludes.bits in
+      ap (λ ns. map (declaration_at (remarked_node f p.node) row false) (flat_map (member_named (remarked_node f p.node)) ns)) (children_same f role.Id p.node.children)
       ∙ all_members p.node row (children_of role.Id p.node.children)
 
   module _ (keeps : KeepsRead f) where
@@ -135,7 +135,7 @@ module _ (f : Node → Marks) where
     pure_same : (node : Node) → is_pure_declarator (remarked_node f node) ≡ is_pure_declarator node
     pure_same node = λ i. child_holds f role.Id (is kind.BindingIdentifier) (λ n. refl) node i && child_holds f role.Init is_pure_function pure_function_same node i
 
-    variable_by : Node → List OpenScope → ℕ → Row
+    variable_by : Node → List OpenScope → ℕ → BinderRow
     variable_by x chain ambient =
         if is_with_text kind.VariableDeclaration (codes "var") x
         then record { flags = union symbol.FunctionScopedVariable.bits ambient; excluded = symbol.FunctionScopedVariableExcludes.bits; how = hoisted; route = outward_to is_var chain }
@@ -148,7 +148,7 @@ module _ (f : Node → Marks) where
     variables_same : (p : Place) (path : List Node) → variables_under (map (remarked_node f) path) (remarked_place f p) ≡ variables_under path p
     variables_same p [] = refl
     variables_same p (x ∷ xs) =
-        (λ i. map (declare (remarked_node f p.node) (variable_same x p.chain i) (pure_same p.node i)) (bound_names (remarked_node f p.node)))
+        (λ i. map (declaration_at (remarked_node f p.node) (variable_same x p.chain i) (pure_same p.node i)) (bound_names (remarked_node f p.node)))
         ∙ bound_rows p.node (variable_row x p.chain) (is_pure_declarator p.node)
 
     -- a function
@@ -164,7 +164,7 @@ module _ (f : Node → Marks) where
         else if is_statement p.node && not (is_strict p.chain) && b then 0
         else without 32 symbol.FunctionExcludes.bits symbol.FunctionScopedVariable.bits
 
-    function_by : Place → Bool → ℕ → Bool → Row
+    function_by : Place → Bool → ℕ → Bool → BinderRow
     function_by p special flags b =
         if not special && not (is_typescript p.source_type) && not (is_strict p.chain) && not (is_var (innermost p.chain) || is_clause (innermost p.chain))
         then record { flags = flags; excluded = excluded_for p b; how = moved; route = outward_past is_var p.chain }
@@ -193,15 +193,15 @@ module _ (f : Node → Marks) where
         go true = flagged role.Id p (union symbol.ConstEnum.bits (marked_ambient p.node)) (union symbol.ConstEnum.bits (marked_ambient (remarked_node f p.node))) symbol.ConstEnumExcludes.bits (ap (union symbol.ConstEnum.bits) (ambient_same p.node))
         go false = flagged role.Id p (union symbol.RegularEnum.bits (marked_ambient p.node)) (union symbol.RegularEnum.bits (marked_ambient (remarked_node f p.node))) symbol.RegularEnumExcludes.bits (ap (union symbol.RegularEnum.bits) (ambient_same p.node))
 
-    imports_same : (p : Place) → imports (remarked_place f p) ≡ imports p
+    imports_same : (p : Place) → import_declarations (remarked_place f p) ≡ import_declarations p
     imports_same p = flagged role.Local p (import_flags p) (import_flags (remarked_place f p)) symbol.ImportBindingExcludes.bits
         (λ i. cond (keeps p.node mark.TypeOnly refl i || parent_same (has mark.TypeOnly) (λ n. keeps n mark.TypeOnly refl) p.path i) symbol.TypeImport.bits symbol.Import.bits)
 
     pub declared_same : (k : AstType) (p : Place) → declared_by k (remarked_place f p) ≡ declared_by k p
     declared_same kind.VariableDeclarator p = variables_same p p.path
     declared_same kind.Function p = ap (λ ds. cond (is_statement p.node) ds [])
-        ((λ i. map (declare (remarked_node f p.node) (function_same p i) (keeps p.node mark.Pure refl i)) (ids (remarked_node f p.node))) ∙ at_role role.Id p.node (function_row p) (has mark.Pure p.node))
-    declared_same kind.Class p = ap (λ ds. cond (is_statement p.node) ds []) (ap (λ row. map (declare (remarked_node f p.node) row false) (ids (remarked_node f p.node))) (class_same p p.chain) ∙ at_role role.Id p.node (class_row p p.chain) false)
+        ((λ i. map (declaration_at (remarked_node f p.node) (function_same p i) (keeps p.node mark.Pure refl i)) (ids (remarked_node f p.node))) ∙ at_role role.Id p.node (function_row p) (has mark.Pure p.node))
+    declared_same kind.Class p = ap (λ ds. cond (is_statement p.node) ds []) (ap (λ row. map (declaration_at (remarked_node f p.node) row false) (ids (remarked_node f p.node))) (class_same p p.chain) ∙ at_role role.Id p.node (class_row p p.chain) false)
     declared_same kind.FormalParameter p = parameters_same p p.path
     declared_same kind.FormalParameterRest p = parameters_same p p.path
     declared_same kind.BindingRestElement p =
@@ -218,13 +218,13 @@ module _ (f : Node → Marks) where
     declared_same kind.TSEnumMember p = members_same p
     declared_same kind.TSNamespaceDeclaration p = ap (λ s. namespace_row s (remarked_place f p)) (state_same f keeps p.node p.path) ∙ namespace_same (instance_state p.node p.path (nodes_around p.node p.path)) p
     declared_same kind.TSTypeParameter p =
-        ap (λ b. map (declare (remarked_node f p.node) (type_parameter_row (cond b (outward_to is_conditional p.chain) (here p.chain))) false) (names_at role.Name (remarked_node f p.node))) (parent_kind kind.TSInferType p.path)
+        ap (λ b. map (declaration_at (remarked_node f p.node) (type_parameter_row (cond b (outward_to is_conditional p.chain) (here p.chain))) false) (names_at role.Name (remarked_node f p.node))) (parent_kind kind.TSInferType p.path)
         ∙ at_role role.Name p.node (type_parameter_row (cond (parent_holds (is kind.TSInferType) p.path) (outward_to is_conditional p.chain) (here p.chain))) false
     declared_same _ p = refl
 
     pub inside_same : (k : AstType) (p : Place) (own : OpenScope) → declared_inside k (remarked_place f p) own ≡ declared_inside k p own
     inside_same kind.Function p own = ap (λ ds. cond (is_statement p.node) [] ds)
-        ((λ i. map (declare (remarked_node f p.node) (own_function_same p own i) (keeps p.node mark.Pure refl i)) (ids (remarked_node f p.node))) ∙ at_role role.Id p.node (own_function_row p own) (has mark.Pure p.node))
-    inside_same kind.Class p own = ap (λ ds. cond (is_statement p.node) [] ds) (ap (λ row. map (declare (remarked_node f p.node) row false) (ids (remarked_node f p.node))) (class_same p (own ∷ [])) ∙ at_role role.Id p.node (class_row p (own ∷ [])) false)
+        ((λ i. map (declaration_at (remarked_node f p.node) (own_function_same p own i) (keeps p.node mark.Pure refl i)) (ids (remarked_node f p.node))) ∙ at_role role.Id p.node (own_function_row p own) (has mark.Pure p.node))
+    inside_same kind.Class p own = ap (λ ds. cond (is_statement p.node) [] ds) (ap (λ row. map (declaration_at (remarked_node f p.node) row false) (ids (remarked_node f p.node))) (class_same p (own ∷ [])) ∙ at_role role.Id p.node (class_row p (own ∷ [])) false)
     inside_same kind.TSMappedType p own = at_role role.Key p.node (type_parameter_row (here (own ∷ []))) false
     inside_same _ p own = refl

@@ -10,10 +10,10 @@ use Rattle.semantic_syntax.specs.declared.symbol_flags.TheConstants.SymbolFlags 
 use Rattle.semantic_tree.specs.Forest.{Forest, nothing, tree}
 use Rattle.semantic_tree.specs.Tree.{Tree}
 use Rattle.semantic_tree.specs.declared.node.Node.{Node}
-use Rattle.semantic_model.specs.Binder.{Row, declare, declare_here, ids, is_statement, marked_ambient, function_row, own_function_row, class_row, variable_row, variables_under, is_pure_declarator, parameter_excluded, parameters_under, catch_names, import_flags, enums, member_names, named_member, member_named, members, namespace_row, type_parameter_route, type_parameter_row, declared_by, declared_inside}
+use Rattle.semantic_model.specs.Binder.{BinderRow, declaration_at, declare_here, ids, is_statement, marked_ambient, function_row, own_function_row, class_row, variable_row, variables_under, is_pure_declarator, parameter_excluded, parameters_under, catch_names, import_flags, enums, member_names, named_member, member_named, member_declarations, namespace_row, type_parameter_route, type_parameter_row, declared_by, declared_inside}
 use Rattle.semantic_model.specs.Declaration.{Declaration, How, plain, hoisted, moved, caught, here}
 use Rattle.semantic_model.specs.Entries.{Among}
-use Rattle.semantic_model.specs.Event.{Event, declares, takes_over, declared, declared_at, declarations, events, events_of, declares_all, is_barred, staying, placed, placed_by, taken_over, is_catch_body, written_declarations}
+use Rattle.semantic_model.specs.Event.{Event, declares, takes_over, declared, declared_at, declarations, events, events_of, declares_all, is_barred, staying_declaration, placed, placed_by, taken_over, is_catch_body, written_declarations}
 use Rattle.semantic_model.specs.Names.{binding_roles, bound_below, bound_names, names_at}
 use Rattle.semantic_model.specs.Namespace.{InstanceState, non_instantiated, const_enum_only, instantiated, instance_state, nodes_around}
 use Rattle.semantic_tree.specs.Views.{is, has, is_role_of, children_of}
@@ -104,22 +104,22 @@ pub data IsOf (all : List Node) (d : Declaration) : Type 0 where
   of_name : (x : Node) → Binds all x → d.naming.identifier ≡ x.node_id → d.naming.name ≡ x.text → IsOf all d
   of_member : (x : Node) → Among x all → x.kind ≡ kind.TSEnumMember → d.naming.identifier ≡ x.node_id → IsOf all d
 
-row_of : (ns : List Node) (node : Node) (row : Row) (is_pure : Bool) (xs : List Node) (d : Declaration) → ((x : Node) → Among x xs → Binds ns x) → Among d (map (declare node row is_pure) xs) → IsOf ns d
+row_of : (ns : List Node) (node : Node) (row : BinderRow) (is_pure : Bool) (xs : List Node) (d : Declaration) → ((x : Node) → Among x xs → Binds ns x) → Among d (map (declaration_at node row is_pure) xs) → IsOf ns d
 row_of ns node row is_pure xs d h a =
-    let (x, b, e) = among_map (declare node row is_pure) xs d a in
+    let (x, b, e) = among_map (declaration_at node row is_pure) xs d a in
     of_name x (h x b) (sym (ap (λ y. y.naming.identifier) e)) (sym (ap (λ y. y.naming.name) e))
 
 module _ (p : Place) where
   abbrev all : List Node
   all = nodes_from p.node
 
-  own_row : (row : Row) (is_pure : Bool) (d : Declaration) → Among d (map (declare p.node row is_pure) (bound_names p.node)) → IsOf all d
+  own_row : (row : BinderRow) (is_pure : Bool) (d : Declaration) → Among d (map (declaration_at p.node row is_pure) (bound_names p.node)) → IsOf all d
   own_row row is_pure d a = row_of all p.node row is_pure (bound_names p.node) d (λ x b. bound_of p.node x b) a
 
-  role_row : (r : Role) (row : Row) (is_pure : Bool) (d : Declaration) → Among d (map (declare p.node row is_pure) (names_at r p.node)) → IsOf all d
+  role_row : (r : Role) (row : BinderRow) (is_pure : Bool) (d : Declaration) → Among d (map (declaration_at p.node row is_pure) (names_at r p.node)) → IsOf all d
   role_row r row is_pure d a = row_of all p.node row is_pure (names_at r p.node) d (λ x b. named_in r p.node x b) a
 
-  abbrev row_here : ℕ → ℕ → Row
+  abbrev row_here : ℕ → ℕ → BinderRow
   row_here flags excluded = record { flags = flags; excluded = excluded; how = plain; route = here p.chain }
 
   role_here : (r : Role) (flags excluded : ℕ) (d : Declaration) → Among d (declare_here p flags excluded (names_at r p.node)) → IsOf all d
@@ -142,7 +142,7 @@ module _ (p : Place) where
       own : is kind.BindingIdentifier pattern ≡ true → Among pattern (bound_names pattern)
       own e = subst (λ t. Among pattern (cond t (pattern ∷ []) (bound_below pattern.kind pattern.children))) (sym e) (inl refl)
 
-      go : (t : Bool) → is kind.BindingIdentifier pattern ≡ t → Among d (if t then declare p.node (record { flags = union symbol.FunctionScopedVariable.bits symbol.CatchVariable.bits; excluded = 0; how = caught; route = here p.chain }) false pattern ∷ [] else declare_here p (union symbol.BlockScopedVariable.bits symbol.CatchVariable.bits) symbol.BlockScopedVariableExcludes.bits (bound_names pattern)) → IsOf all d
+      go : (t : Bool) → is kind.BindingIdentifier pattern ≡ t → Among d (if t then declaration_at p.node (record { flags = union symbol.FunctionScopedVariable.bits symbol.CatchVariable.bits; excluded = 0; how = caught; route = here p.chain }) false pattern ∷ [] else declare_here p (union symbol.BlockScopedVariable.bits symbol.CatchVariable.bits) symbol.BlockScopedVariableExcludes.bits (bound_names pattern)) → IsOf all d
       go true e (inl q) = of_name pattern (bound_child role.Pattern p.node pattern pattern b (own e)) (sym (ap (λ y. y.naming.identifier) q)) (sym (ap (λ y. y.naming.name) q))
       go true e (inr q) = absurd q
       go false e q = row_of all p.node (row_here (union symbol.BlockScopedVariable.bits symbol.CatchVariable.bits) symbol.BlockScopedVariableExcludes.bits) false (bound_names pattern) d (λ x c. bound_child role.Pattern p.node pattern x b c) q
@@ -159,22 +159,22 @@ module _ (p : Place) where
       go true q = role_here role.Id (union symbol.ConstEnum.bits (marked_ambient p.node)) symbol.ConstEnumExcludes.bits d q
       go false q = role_here role.Id (union symbol.RegularEnum.bits (marked_ambient p.node)) symbol.RegularEnumExcludes.bits d q
 
-  member_of : (d : Declaration) → p.node.kind ≡ kind.TSEnumMember → Among d (members p) → IsOf all d
+  member_of : (d : Declaration) → p.node.kind ≡ kind.TSEnumMember → Among d (member_declarations p) → IsOf all d
   member_of d k a =
-      let (x, b, e) = among_map (declare p.node (row_here symbol.EnumMember.bits symbol.EnumMemberExcludes.bits) false) (flat_map (member_named p.node) (children_of role.Id p.node.children)) d a in
+      let (x, b, e) = among_map (declaration_at p.node (row_here symbol.EnumMember.bits symbol.EnumMemberExcludes.bits) false) (flat_map (member_named p.node) (children_of role.Id p.node.children)) d a in
       let (id, c, f) = among_flat (member_named p.node) (children_of role.Id p.node.children) x b in
       let (name, g, h) = among_map (named_member p.node id) (member_names id) x f in
       of_member p.node (inl refl) k (sym (ap (λ y. y.naming.identifier) e) ∙ sym (ap (λ y. y.node_id) h))
 
   declared_of : (k : AstType) (d : Declaration) → p.node.kind ≡ k → Among d (declared_by k p) → IsOf all d
   declared_of kind.VariableDeclarator d e a = variables_of p.path d a
-  declared_of kind.Function d e a = role_row role.Id (function_row p) (has mark.Pure p.node) d (among_if (is_statement p.node) (map (declare p.node (function_row p) (has mark.Pure p.node)) (ids p.node)) d a)
-  declared_of kind.Class d e a = role_row role.Id (class_row p p.chain) false d (among_if (is_statement p.node) (map (declare p.node (class_row p p.chain) false) (ids p.node)) d a)
+  declared_of kind.Function d e a = role_row role.Id (function_row p) (has mark.Pure p.node) d (among_if (is_statement p.node) (map (declaration_at p.node (function_row p) (has mark.Pure p.node)) (ids p.node)) d a)
+  declared_of kind.Class d e a = role_row role.Id (class_row p p.chain) false d (among_if (is_statement p.node) (map (declaration_at p.node (class_row p p.chain) false) (ids p.node)) d a)
   declared_of kind.FormalParameter d e a = parameters_of p.path d a
   declared_of kind.FormalParameterRest d e a = parameters_of p.path d a
   declared_of kind.BindingRestElement d e a =
-      let row : Row = row_here symbol.FunctionScopedVariable.bits (union symbol.FunctionScopedVariableExcludes.bits symbol.FunctionScopedVariable.bits) in
-      own_row row false d (among_if _ (map (declare p.node row false) (bound_names p.node)) d a)
+      let row : BinderRow = row_here symbol.FunctionScopedVariable.bits (union symbol.FunctionScopedVariableExcludes.bits symbol.FunctionScopedVariable.bits) in
+      own_row row false d (among_if _ (map (declaration_at p.node row false) (bound_names p.node)) d a)
   declared_of kind.CatchParameter d e a = let (x, b, c) = among_flat (catch_names p) (children_of role.Pattern p.node.children) d a in catch_of x d b c
   declared_of kind.ImportSpecifier d e a = role_here role.Local (import_flags p) symbol.ImportBindingExcludes.bits d a
   declared_of kind.ImportDefaultSpecifier d e a = role_here role.Local (import_flags p) symbol.ImportBindingExcludes.bits d a
@@ -189,8 +189,8 @@ module _ (p : Place) where
   declared_of _ d e a = absurd a
 
   inside_of : (k : AstType) (own : OpenScope) (d : Declaration) → Among d (declared_inside k p own) → IsOf all d
-  inside_of kind.Function own d a = role_row role.Id (own_function_row p own) (has mark.Pure p.node) d (among_unless (is_statement p.node) (map (declare p.node (own_function_row p own) (has mark.Pure p.node)) (ids p.node)) d a)
-  inside_of kind.Class own d a = role_row role.Id (class_row p (own ∷ [])) false d (among_unless (is_statement p.node) (map (declare p.node (class_row p (own ∷ [])) false) (ids p.node)) d a)
+  inside_of kind.Function own d a = role_row role.Id (own_function_row p own) (has mark.Pure p.node) d (among_unless (is_statement p.node) (map (declaration_at p.node (own_function_row p own) (has mark.Pure p.node)) (ids p.node)) d a)
+  inside_of kind.Class own d a = role_row role.Id (class_row p (own ∷ [])) false d (among_unless (is_statement p.node) (map (declaration_at p.node (class_row p (own ∷ [])) false) (ids p.node)) d a)
   inside_of kind.TSMappedType own d a = role_row role.Key (type_parameter_row (here (own ∷ []))) false d a
   inside_of _ own d a = absurd a
 
@@ -214,11 +214,11 @@ placed_of ns hoisted ds d i = i
 placed_of ns caught ds d i = i
 placed_of ns moved ds d i = go (is_barred ds d (outside d.route.passed)) i
   where
-    stays : IsOf ns d → IsOf ns (staying d)
+    stays : IsOf ns d → IsOf ns (staying_declaration d)
     stays (of_name x b e f) = of_name x b e f
     stays (of_member x a k e) = of_member x a k e
 
-    go : (b : Bool) → IsOf ns d → IsOf ns (if b then staying d else d)
+    go : (b : Bool) → IsOf ns d → IsOf ns (if b then staying_declaration d else d)
     go true q = stays q
     go false q = q
 

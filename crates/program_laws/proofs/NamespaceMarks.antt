@@ -11,7 +11,7 @@ use Rattle.semantic_kinds.specs.declared.role.Role.TheVariants as role
 use Rattle.semantic_syntax.specs.Tables.{Name}
 use Rattle.semantic_tree.specs.declared.node.Node.{Node}
 use Rattle.semantic_model.specs.Names.{bound_names}
-use Rattle.semantic_model.specs.Namespace.{non_instantiated, const_enum_only, instantiated, Item, Reached, counts_as, leads_to, is_module, is_import_equals, is_list, statements, body_items, declaration_in, exported, declares, first_declaring, target_of, item_reached, local_reached, specifier_reached, specifiers_reached, declaration_reached, reached_from, is_among, new_items, reach, reached_within, greatest, instance_state, nodes_around}
+use Rattle.semantic_model.specs.Namespace.{non_instantiated, const_enum_only, instantiated, Item, StatementReach, counts_as, leads_to, is_namespace_or_module, is_import_equals, is_list, statements, body_items, declaration_in, exported, declares, first_declaring, target_of, item_reached, local_reached, specifier_reached, specifiers_reached, declaration_reached, reached_from, is_among, new_items, reach, reached_within, greatest, instance_state, nodes_around}
 use Rattle.semantic_tree.specs.Views.{is, has_text, children_of, child_of}
 use Rattle.program_laws.specs.ReadMarks.{KeepsRead}
 use Rattle.program_laws.proofs.Children.{children_same, child_same, any_same, count_same}
@@ -29,7 +29,7 @@ module _ (f : Node → Marks) where
   abbrev remarked_items : List Item → List Item
   remarked_items is = map remarked_item is
 
-  abbrev remarked_reached : Reached → Reached
+  abbrev remarked_reached : StatementReach → StatementReach
   remarked_reached r = record { states = r.states; items = remarked_items r.items }
 
   items_same : (ls : List (List Node)) (xs : List Node) → map (λ n. record { node = n; lists = remarked_lists ls }) (map (remarked_node f) xs) ≡ remarked_items (map (λ n. record { node = n; lists = ls }) xs)
@@ -106,12 +106,12 @@ module _ (f : Node → Marks) where
   specifiers_same : (ls : List (List Node)) (xs : List Node) → specifiers_reached (map (specifier_reached (remarked_lists ls)) (map (remarked_node f) xs)) ≡ remarked_reached (specifiers_reached (map (specifier_reached ls) xs))
   specifiers_same ls [] = refl
   specifiers_same ls (x ∷ xs) =
-      let rest : Reached = specifiers_reached (map (specifier_reached ls) xs) in
+      let rest : StatementReach = specifiers_reached (map (specifier_reached ls) xs) in
       (λ i. record { states = (specifier_same ls x i).states ++ (specifiers_same ls xs i).states; items = (specifier_same ls x i).items ++ (specifiers_same ls xs i).items })
       ∙ ap (λ is. record { states = (specifier_reached ls x).states ++ rest.states; items = is }) (sym (map_append remarked_item (specifier_reached ls x).items rest.items))
 
   declaration_same : (ls : List (List Node)) (x : Node) → declaration_reached (remarked_lists ls) (remarked_node f x) ≡ remarked_reached (declaration_reached ls x)
-  declaration_same ls x = go (is_module x) (holds_kind (kind.TSTypeAliasDeclaration ∷ kind.TSInterfaceDeclaration ∷ []) x.kind)
+  declaration_same ls x = go (is_namespace_or_module x) (holds_kind (kind.TSTypeAliasDeclaration ∷ kind.TSInterfaceDeclaration ∷ []) x.kind)
     where
       go : (a b : Bool) → cond a (leads_to (record { node = remarked_node f x; lists = remarked_lists ls } ∷ [])) (cond b (counts_as non_instantiated) (counts_as instantiated)) ≡ remarked_reached (cond a (leads_to (record { node = x; lists = ls } ∷ [])) (cond b (counts_as non_instantiated) (counts_as instantiated)))
       go true b = refl

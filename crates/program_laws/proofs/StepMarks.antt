@@ -10,7 +10,7 @@ use Rattle.semantic_model.specs.Inside.{opens, is_inside, any_inside, header_rol
 use Rattle.semantic_tree.specs.Views.{has_role}
 use Rattle.semantic_model.specs.Place.{Place, OpenScope, outside}
 use Rattle.semantic_model.specs.ScopeKind.{opened_scope}
-use Rattle.semantic_model.specs.Step.{Step, entering, opening, header_ending, closing, leaving, steps_below, steps, opening_at, ending_after, opening_last, scope_at, next_at, chain_within, child_place, cursor_past, root_place}
+use Rattle.semantic_model.specs.Step.{Step, entering, opening, header_ending, closing, leaving, steps_below, steps, opening_at, ending_after, opening_last, scope_at, next_at, child_scopes, child_place, cursor_past, root_place}
 use Rattle.program_laws.specs.ReadMarks.{KeepsRead}
 use Rattle.program_laws.specs.Remarked.{remarked_node, remarked, remarked_tree}
 use Rattle.program_laws.proofs.Children.{roles_same, insides_same, scopes_same}
@@ -66,7 +66,7 @@ module _ (f : Node → Marks) where
       go false true = refl
       go false false = refl
 
-  chain_same : (p : Place) (r : Role) (own : Option OpenScope) → chain_within (remarked_place f p) r own ≡ chain_within p r own
+  chain_same : (p : Place) (r : Role) (own : Option OpenScope) → child_scopes (remarked_place f p) r own ≡ child_scopes p r own
   chain_same p r None = refl
   chain_same p r (Some s) = refl
 

@@ -10,7 +10,7 @@ use Rattle.semantic_syntax.specs.Lookup.{lookup}
 use Rattle.semantic_model.specs.Reference.{Occurrence, references}
 use Rattle.semantic_model.specs.Step.{steps}
 use Rattle.semantic_model.specs.TablesOf.{tables_of}
-use Rattle.semantic_model.specs.Tie.{Tie, ties, answers, symbol_of, symbol_by}
+use Rattle.semantic_model.specs.Tie.{Tie, ties, answers, tied_symbol, symbol_by}
 use Rattle.semantic_model.proofs.fold.Changes.{HasName}
 use Rattle.semantic_model.proofs.once.UseLists.{IsBelow}
 use Rattle.semantic_model.proofs.lists.Members.{among_at}
@@ -43,7 +43,7 @@ module _ (p : Tree) where
   abbrev pub all_ties : List Tie
   all_ties = ties final es 0 (references (steps p))
 
-  pub tie_named : HasForm p → (t : Tie) (s : ℕ) → Among t all_ties → symbol_of t ≡ Some s → IsNamed (tables_of p) s t.reference.name
+  pub tie_named : HasForm p → (t : Tie) (s : ℕ) → Among t all_ties → tied_symbol t ≡ Some s → IsNamed (tables_of p) s t.reference.name
   tie_named f t s a e =
       let below : s < length final.symbols = subst (IsBelow (length final.symbols)) e (ties_below es 0 (references (steps p)) t a) in
       let (y, there) = entry_below final.symbols s below in

@@ -3,7 +3,7 @@ use Rattle.std.proofs.Common.{◌≡◌, ◌<◌, inl, inr, ℕ, suc, List, [], 
 use Rattle.std.proofs.lemmas.List.{length-replicate}
 use Rattle.std.proofs.lemmas.List.Elements.{All-nil, All-cons, All-head, All-tail, All-map}
 use Rattle.std.specs.declared.alloc.Global.{Global}
-use Rattle.reachability.specs.Rows.{Among, row, lists, with_pair, with_pairs, rows_of, AreWithin}
+use Rattle.reachability.specs.Rows.{Among, row, lists, with_pair, with_pairs, rows_from_pairs, AreWithin}
 use Rattle.reachability.proofs.Lists.{all_among}
 use Rattle.reachability.proofs.Pairs.{rows_have_only}
 
@@ -19,12 +19,12 @@ length_made : (rs : List (List ℕ)) (pairs : List (ℕ × ℕ)) → length (wit
 length_made rs [] = refl
 length_made rs (pair ∷ pairs) = length_made (with_pair rs pair) pairs ∙ length-set rs pair.0 (row rs pair.0 ++ pair.1 ∷ [])
 
-pub length_rows_of : (n : ℕ) (pairs : List (ℕ × ℕ)) → length (rows_of n pairs) ≡ n
+pub length_rows_of : (n : ℕ) (pairs : List (ℕ × ℕ)) → length (rows_from_pairs n pairs) ≡ n
 length_rows_of n pairs = length_made (replicate n []) pairs ∙ length-replicate n []
 
-pub rows_of_within : (n m : ℕ) (pairs : List (ℕ × ℕ)) → All (λ p. p.0 < n) pairs → All (λ p. p.1 < m) pairs → AreWithin m (rows_of n pairs)
+pub rows_of_within : (n m : ℕ) (pairs : List (ℕ × ℕ)) → All (λ p. p.0 < n) pairs → All (λ p. p.1 < m) pairs → AreWithin m (rows_from_pairs n pairs)
 rows_of_within n m pairs h k =
-    within_by_rows m (rows_of n pairs) (λ a. all_from (λ b. b < m) (row (rows_of n pairs) a)
+    within_by_rows m (rows_from_pairs n pairs) (λ a. all_from (λ b. b < m) (row (rows_from_pairs n pairs) a)
     (λ b i. all_among (λ p. p.1 < m) pairs (a, b) k (rows_have_only n pairs a b h i)))
 
 pub lists_within : (n : ℕ) (vs : List (Vec ℕ Global)) → All (λ v. All (λ a. a < n) v.items) vs → AreWithin n (lists vs)

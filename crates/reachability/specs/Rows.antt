@@ -36,8 +36,8 @@ with_pairs rows [] = rows
 with_pairs rows (pair ∷ pairs) = with_pairs (with_pair rows pair) pairs
 
 -- so many rows: in each the seconds of the pairs whose first is its number, in order
-abbrev pub rows_of : {A : Type 0} → ℕ → List (ℕ × A) → List (List A)
-rows_of n pairs = with_pairs (replicate n []) pairs
+abbrev pub rows_from_pairs : {A : Type 0} → ℕ → List (ℕ × A) → List (List A)
+rows_from_pairs n pairs = with_pairs (replicate n []) pairs
 
 -- no number stands twice
 abbrev pub AreDistinct : List ℕ → Type 0

@@ -1,7 +1,7 @@
 //! Numbers that are marked, each once, in order of marking.
 
 ghost use Rattle.std.specs.Prelude.{◌≡◌, ◌<◌, [], false, length, slice_index, All, IfOk, OnOk, replicate};
-ghost use Rattle.reachability.specs.Marked.{with_mark, with_marks};
+ghost use Rattle.reachability.specs.Marked.{with_number_marked, with_numbers_marked};
 
 use std::alloc::{AllocError, Global};
 use std::marker::Model;
@@ -60,7 +60,7 @@ impl Marking {
     /// Marks a number, unless it is marked.
     pub fn mark(&mut self, a: u32) -> Result<(), AllocError>
         requires { a < length self.old.marks }
-        ensures ok { OnOk result (self.new ≡ with_mark self.old a) }
+        ensures ok { OnOk result (self.new ≡ with_number_marked self.old a) }
     {
         if !self.marks[a as usize] {
             self.list.push(a)?;
@@ -72,7 +72,7 @@ impl Marking {
     /// Marks numbers, in order.
     pub fn mark_all(&mut self, new: &[u32]) -> Result<(), AllocError>
         requires { All (λ a. a < length self.old.marks) new.now }
-        ensures ok { OnOk result (self.new ≡ with_marks self.old new.now) }
+        ensures ok { OnOk result (self.new ≡ with_numbers_marked self.old new.now) }
     {
         for a in new {
             self.mark(*a)?;

@@ -1,7 +1,7 @@
 //! Rows of numbers, made from pairs.
 
 ghost use Rattle.std.specs.Prelude.{◌≡◌, ◌<◌, ◌≤◌, ◌+◌, ◌↔◌, [], length, replicate, All, IfOk, OnOk, IsTrue};
-ghost use Rattle.reachability.specs.Rows.{row, lists, with_pair, rows_of, AreWithin};
+ghost use Rattle.reachability.specs.Rows.{row, lists, with_pair, rows_from_pairs, AreWithin};
 
 use std::alloc::{AllocError, Global};
 
@@ -32,7 +32,7 @@ pub fn rows_of(
     pairs: &[(u32, u32)],
 ) -> Result<Vec<Vec<u32>>, AllocError>
     requires { All (λ pair. pair.0 < count) pairs.now }
-    ensures { IfOk result (λ rows. lists rows.items ≡ rows_of count pairs.now) }
+    ensures { IfOk result (λ rows. lists rows.items ≡ rows_from_pairs count pairs.now) }
 {
     let mut rows = empty_rows(alloc, count)?;
     for (from, to) in pairs {

@@ -14,7 +14,7 @@ use Rattle.semantic_syntax.specs.Tables.{Name, Symbol}
 use Rattle.semantic_tree.specs.Faults.{first_fault}
 use Rattle.semantic_tree.specs.Forest.{Forest, nothing, tree}
 use Rattle.semantic_tree.specs.Place.{child_place, placed_below, root_place, all_placed}
-use Rattle.semantic_tree.specs.Renamed.{names_member, is_named, setting_inside, setting_below}
+use Rattle.semantic_tree.specs.Renamed.{names_member, is_program_name, setting_inside, setting_below}
 use Rattle.semantic_tree.specs.Shaped.{IsWellFormed, OfEach}
 use Rattle.semantic_tree.specs.Tree.{Tree, IsNumbered}
 use Rattle.semantic_tree.specs.declared.node.Node.{Node}
@@ -49,7 +49,7 @@ use Rattle.program_laws.proofs.NodeNames.{nodes_have_names, tied_nodes_have_name
 use Rattle.program_laws.proofs.TreeNodes.{nodes_from, placed_node}
 use Rattle.semantic_model.specs.Analysis.{analysis_of}
 use Rattle.semantic_model.specs.Exported.{exported_names}
-use Rattle.rename_model.specs.Alone.{names_of, BelongsTo, IsUnused}
+use Rattle.rename_model.specs.Alone.{node_names, BelongsTo, IsUnused}
 use Rattle.rename_model.specs.Refusal.{fixes_name, first_fixed}
 use Rattle.rename_model.specs.Renamed.{bears_name}
 use Rattle.rename_model.proofs.Entered.{Enters, enters, place_of}
@@ -159,7 +159,7 @@ module _ (p : Tree) (faultless : first_fault p ≡ None) (numbered : IsNumbered 
       not_old : t ≡ y.name → ⊥
       not_new : t ≡ new → ⊥
 
-    belongs : (here : placed.Place) (x : Node) → Among (here, x) (all_placed p.root) → Among y.name (names_of x) → chosen x.node_id ≡ true
+    belongs : (here : placed.Place) (x : Node) → Among (here, x) (all_placed p.root) → Among y.name (node_names x) → chosen x.node_id ≡ true
     belongs here x a b = elim (alone here x a b) [ inl e ↦ symbol_named (analysis_of p) s x.node_id e | inr e ↦ tie_named (analysis_of p) s x.node_id e ]
 
     abbrev texts : List Node → List Name
@@ -220,10 +220,10 @@ module _ (p : Tree) (faultless : first_fault p ≡ None) (numbered : IsNumbered 
     -- the names of an enum member are apart
     names_apart : (here : placed.Place) (x : Node) → Among (here, x) (all_placed p.root) → x.kind ≡ kind.TSEnumMember → Under InMember x.children
     names_apart here x a k t b =
-        let named : Among t (names_of x) = subst (λ j. Among t (cond (is_identifier j) (x.text ∷ []) (cond (same_kind j kind.TSEnumMember) (texts (flat_map member_names (children_of role.Id x.children))) []))) (sym k) b in
+        let named : Among t (node_names x) = subst (λ j. Among t (cond (is_identifier j) (x.text ∷ []) (cond (same_kind j kind.TSEnumMember) (texts (flat_map member_names (children_of role.Id x.children))) []))) (sym k) b in
         record {
-          not_old = λ e. no_member x (placed_node p.root here x a) k (belongs here x a (subst (λ u. Among u (names_of x)) e named));
-          not_new = λ e. unused here x a (subst (λ u. Among u (names_of x)) e named);
+          not_old = λ e. no_member x (placed_node p.root here x a) k (belongs here x a (subst (λ u. Among u (node_names x)) e named));
+          not_new = λ e. unused here x a (subst (λ u. Among u (node_names x)) e named);
         }
 
     -- a template that names a member
@@ -251,14 +251,14 @@ module _ (p : Tree) (faultless : first_fault p ≡ None) (numbered : IsNumbered 
         go false e = under_inside setting r node after h
 
     -- an identifier has its text as its name
-    own_name : (x : Node) → is_identifier x.kind ≡ true → Among x.text (names_of x)
+    own_name : (x : Node) → is_identifier x.kind ≡ true → Among x.text (node_names x)
     own_name x e = subst (λ b. Among x.text (cond b (x.text ∷ []) (cond (is kind.TSEnumMember x) (texts (flat_map member_names (children_of role.Id x.children))) []))) (sym e) (inl refl)
 
-    identifier_named : (setting : Setting) (r : Role) (k : AstType) → is_identifier k ≡ true → is_named setting r k ≡ true
-    identifier_named setting r k e = identifier_cases (λ j. is_named setting r j ≡ true) refl refl k e
+    identifier_named : (setting : Setting) (r : Role) (k : AstType) → is_identifier k ≡ true → is_program_name setting r k ≡ true
+    identifier_named setting r k e = identifier_cases (λ j. is_program_name setting r j ≡ true) refl refl k e
 
     -- an identifier, or what names a member
-    named_cases : (setting : Setting) (r : Role) (k : AstType) → is_named setting r k ≡ true → (is_identifier k ≡ true) ⊎ (names_member setting r k ≡ true)
+    named_cases : (setting : Setting) (r : Role) (k : AstType) → is_program_name setting r k ≡ true → (is_identifier k ≡ true) ⊎ (names_member setting r k ≡ true)
     named_cases setting r k h = go (same_kind k kind.BindingIdentifier) refl (same_kind k kind.IdentifierReference) refl h
       where
         go : (a : Bool) → same_kind k kind.BindingIdentifier ≡ a → (b : Bool) → same_kind k kind.IdentifierReference ≡ b → (a || b || names_member setting r k) ≡ true → (is_identifier k ≡ true) ⊎ (names_member setting r k ≡ true)
@@ -271,11 +271,11 @@ module _ (p : Tree) (faultless : first_fault p ≡ None) (numbered : IsNumbered 
       named = λ c. identifier_named setting r x.kind (is_of_symbol here x a c).0;
       has_old = λ c. reads_same x.text y.name (is_of_symbol here x a c).1;
       only = λ e f. elim (named_cases setting r x.kind e) [
-        | inl i ↦ belongs here x a (subst (λ t. Among t (names_of x)) (reads_as x.text y.name f) (own_name x i))
+        | inl i ↦ belongs here x a (subst (λ t. Among t (node_names x)) (reads_as x.text y.name f) (own_name x i))
         | inr m ↦ absurd ((member_apart setting r x after m h).not_old (reads_as x.text y.name f))
       ];
       not_new = λ e. elim (named_cases setting r x.kind e) [
-        | inl i ↦ reads_other x.text new (λ f. unused here x a (subst (λ t. Among t (names_of x)) f (own_name x i)))
+        | inl i ↦ reads_other x.text new (λ f. unused here x a (subst (λ t. Among t (node_names x)) f (own_name x i)))
         | inr m ↦ reads_other x.text new (member_apart setting r x after m h).not_new
       ];
     }

@@ -15,7 +15,7 @@ use Rattle.semantic_model.specs.Analysis.{analysis_of}
 use Rattle.semantic_model.specs.Exported.{exported_names}
 use Rattle.rename_model.specs.Alone.{BelongsTo, IsUnused}
 use Rattle.rename_model.specs.Refusal.{differs, is_bad_name, first_fixed, compared, unless_fixed, unless_bad, rename}
-use Rattle.rename_model.specs.Renamed.{bears_name, renamed}
+use Rattle.rename_model.specs.Renamed.{bears_name, program_renamed}
 use Rattle.rename_model.specs.Same.{Same, first_difference}
 use Rattle.rename_model.proofs.AloneNames.{are_identifiers, some_name, stands_alone}
 use Rattle.rename_model.proofs.Differences.{complete}
@@ -39,7 +39,7 @@ good name h = go (bytes_eq name []) (bytes_eq name (codes "arguments")) (bytes_e
 
 module _ (p : Tree) (faultless : first_fault p ≡ None) (numbered : IsNumbered p.root) (s : ℕ) (y : Symbol) (there : slice_get (tables_of p).symbols s ≡ Some y) where
   -- what is compared has no fault
-  pub no_fault_renamed : (new : Name) → is_bad_name new ≡ false → first_fixed (exported_names (steps p)) (bears_name (analysis_of p) s) (steps p) ≡ None → (first_fault (renamed p (analysis_of p) s new) ≡ None) × IsNumbered (renamed p (analysis_of p) s new).root
+  pub no_fault_renamed : (new : Name) → is_bad_name new ≡ false → first_fixed (exported_names (steps p)) (bears_name (analysis_of p) s) (steps p) ≡ None → (first_fault (program_renamed p (analysis_of p) s new) ≡ None) × IsNumbered (program_renamed p (analysis_of p) s new).root
   no_fault_renamed new bad free =
       (no_fault_made (bears_name (analysis_of p) s) new (good new bad).0 p (are_identifiers p faultless numbered s y there free) faultless, numbers_kept (bears_name (analysis_of p) s) new p numbered)
 
@@ -50,7 +50,7 @@ module _ (p : Tree) (faultless : first_fault p ≡ None) (numbered : IsNumbered 
     abbrev chosen : ℕ → Bool
     chosen = bears_name (analysis_of p) s
 
-    means_same : is_bad_name new ≡ false → first_fixed (exported_names (steps p)) chosen (steps p) ≡ None → Same p (renamed p (analysis_of p) s new)
+    means_same : is_bad_name new ≡ false → first_fixed (exported_names (steps p)) chosen (steps p) ≡ None → Same p (program_renamed p (analysis_of p) s new)
     means_same bad free =
         let g : (bytes_eq new [] ≡ false) × (bytes_eq new (codes "arguments") ≡ false) × (bytes_eq new (codes "eval") ≡ false) = good new bad in
         alone_means_same chosen y.name new p (sym (has_form p faultless).root)
@@ -68,7 +68,7 @@ module _ (p : Tree) (faultless : first_fault p ≡ None) (numbered : IsNumbered 
         by_fixed : is_bad_name new ≡ false → (o : Option ℕ) → first_fixed (exported_names (steps p)) (bears_name (analysis_of p) s) (steps p) ≡ o → unless_fixed p (analysis_of p) (bears_name (analysis_of p) s) new o ≡ Err (differs node) → ⊥
         by_fixed bad (Some n) e k = absurd cc
         by_fixed bad None e k =
-            let q : Tree = renamed p (analysis_of p) s new in
+            let q : Tree = program_renamed p (analysis_of p) s new in
             by_difference q (first_difference (analysis_of p) (analysis_of q) 0 (node_count p.root)) (complete p q (means_same bad e)) k
 
         go : (b : Bool) → is_bad_name new ≡ b → unless_bad b p (steps p) (analysis_of p) s new ≡ Err (differs node) → ⊥

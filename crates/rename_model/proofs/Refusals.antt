@@ -12,7 +12,7 @@ use Rattle.semantic_model.specs.Analysis.{analysis_of}
 use Rattle.semantic_model.specs.Exported.{exported_names}
 use Rattle.rename_model.specs.Fixed.{FixesFirst, NoneFixes}
 use Rattle.rename_model.specs.Refusal.{Refusal, bad_name, fixed, differs, is_bad_name, fixes_name, node_in, first_fixed, compared, unless_fixed, unless_bad, rename}
-use Rattle.rename_model.specs.Renamed.{bears_name, renamed}
+use Rattle.rename_model.specs.Renamed.{bears_name, program_renamed}
 use Rattle.rename_model.specs.Same.{Same, DiffersFirstAt, first_difference}
 use Rattle.rename_model.proofs.Differences.{exact_none, exact_some, complete}
 use Rattle.rename_model.proofs.NamedNodes.{some_is}
@@ -127,7 +127,7 @@ compare m n = go (nat_lt m n) refl (nat_lt n m) refl
 
 module _ (p : Tree) (s : ℕ) (new : Name) where
   abbrev q : Tree
-  q = renamed p (analysis_of p) s new
+  q = program_renamed p (analysis_of p) s new
 
   abbrev found : Option ℕ
   found = first_difference (analysis_of p) (analysis_of q) 0 (node_count p.root)
@@ -199,9 +199,9 @@ module _ (p : Tree) (s : ℕ) (new : Name) where
   one_difference : (node : ℕ) → DiffersFirstAt p q node → found ≡ Some node
   one_difference node w = go found refl
     where
-      go : (o : Option ℕ) → first_difference (analysis_of p) (analysis_of (renamed p (analysis_of p) s new)) 0 (node_count p.root) ≡ o → o ≡ Some node
-      go None e = absurd (w.there (exact_none p (renamed p (analysis_of p) s new) e node w.inside))
-      go (Some other) e = let v : DiffersFirstAt p (renamed p (analysis_of p) s new) other = exact_some p (renamed p (analysis_of p) s new) other e in elim (compare other node) [
+      go : (o : Option ℕ) → first_difference (analysis_of p) (analysis_of (program_renamed p (analysis_of p) s new)) 0 (node_count p.root) ≡ o → o ≡ Some node
+      go None e = absurd (w.there (exact_none p (program_renamed p (analysis_of p) s new) e node w.inside))
+      go (Some other) e = let v : DiffersFirstAt p (program_renamed p (analysis_of p) s new) other = exact_some p (program_renamed p (analysis_of p) s new) other e in elim (compare other node) [
         | inl l ↦ absurd (v.there (w.before other l))
         | inr c ↦ elim c [ inl l ↦ absurd (w.there (v.before node l)) | inr same ↦ ap Some same ]
       ]

@@ -8,7 +8,7 @@ use Rattle.semantic_kinds.specs.declared.role.Role.{Role}
 use Rattle.semantic_kinds.specs.declared.role.Role.TheVariants as role
 use Rattle.semantic_syntax.specs.Tables.{Name, Tables}
 use Rattle.semantic_tree.specs.Forest.{Forest, nothing, tree}
-use Rattle.semantic_tree.specs.Renamed.{swap, is_named, setting_below, renamed_text, renamed, swapped_tree}
+use Rattle.semantic_tree.specs.Renamed.{swap, is_program_name, setting_below, renamed_text, renamed, swapped_tree}
 use Rattle.semantic_tree.specs.Tree.{Tree}
 use Rattle.semantic_tree.specs.declared.node.Node.{Node}
 use Rattle.semantic_tree.specs.declared.swap.Setting.{Setting}
@@ -30,10 +30,10 @@ use Rattle.rename_model.specs.Same.{Same}
 
 -- a chosen node has the old name, and is the only kind that has; no node has the new name
 pub record Bears (chosen : ℕ → Bool) (old new : Name) (setting : Setting) (r : Role) (k : AstType) (text : Name) (id : ℕ) : Type 0 where
-  pub named : chosen id ≡ true → is_named setting r k ≡ true
+  pub named : chosen id ≡ true → is_program_name setting r k ≡ true
   pub has_old : chosen id ≡ true → bytes_eq text old ≡ true
-  pub only : is_named setting r k ≡ true → bytes_eq text old ≡ true → chosen id ≡ true
-  pub not_new : is_named setting r k ≡ true → bytes_eq text new ≡ false
+  pub only : is_program_name setting r k ≡ true → bytes_eq text old ≡ true → chosen id ≡ true
+  pub not_new : is_program_name setting r k ≡ true → bytes_eq text new ≡ false
 
 abbrev pub AloneIn : (ℕ → Bool) → (old new : Name) → Setting → Forest → Type 0
 AloneIn chosen old new setting nothing = Unit {0}
@@ -41,7 +41,7 @@ AloneIn chosen old new setting (tree r k span text marks below id after) =
     Bears chosen old new setting r k text id × AloneIn chosen old new (setting_below setting r k) below × AloneIn chosen old new setting after
 
 text_same : (chosen : ℕ → Bool) (a b : Name) (setting : Setting) (r : Role) (k : AstType) (text : Name) (id : ℕ) → Bears chosen a b setting r k text id → cond (chosen id) b text ≡ renamed_text (swap a b) setting r k text
-text_same chosen a b setting r k text id w = go (chosen id) (is_named setting r k) (bytes_eq text a) (bytes_eq text b) w.named w.has_old w.only w.not_new
+text_same chosen a b setting r k text id w = go (chosen id) (is_program_name setting r k) (bytes_eq text a) (bytes_eq text b) w.named w.has_old w.only w.not_new
   where
     differ : false ≡ true → ⊥
     differ f = absurd cc

@@ -14,15 +14,15 @@ use Rattle.rename_model.specs.WithName.{is_identifier}
 use Rattle.semantic_model.specs.Analysis.{symbol_at, tied_at, analysis_of}
 
 -- the names of a binding identifier, of an identifier reference, or of an enum member
-abbrev pub names_of : Node → List Name
-names_of node =
+abbrev pub node_names : Node → List Name
+node_names node =
     cond (is_identifier node.kind) (node.text ∷ [])
     (cond (is kind.TSEnumMember node) (map (λ x. x.text) (flat_map member_names (children_of role.Id node.children))) [])
 
 -- every node that has the name declares symbol s or is tied to it
 abbrev pub BelongsTo : Tree → ℕ → Name → Type 0
-BelongsTo p s name = (place : Place) (node : Node) → Among (place, node) (all_placed p.root) → Among name (names_of node) → (symbol_at (analysis_of p) node.node_id ≡ Some s) ⊎ (tied_at (analysis_of p) node.node_id ≡ Some s)
+BelongsTo p s name = (place : Place) (node : Node) → Among (place, node) (all_placed p.root) → Among name (node_names node) → (symbol_at (analysis_of p) node.node_id ≡ Some s) ⊎ (tied_at (analysis_of p) node.node_id ≡ Some s)
 
 -- no node has the name
 abbrev pub IsUnused : Tree → Name → Type 0
-IsUnused p name = (place : Place) (node : Node) → Among (place, node) (all_placed p.root) → Among name (names_of node) → ⊥
+IsUnused p name = (place : Place) (node : Node) → Among (place, node) (all_placed p.root) → Among name (node_names node) → ⊥

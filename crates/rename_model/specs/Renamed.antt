@@ -11,5 +11,5 @@ abbrev pub bears_name : Analysis → ℕ → ℕ → Bool
 bears_name a s id = is_symbol s (symbol_at a id) || is_symbol s (tied_at a id)
 
 -- the program in which symbol s has the name
-abbrev pub renamed : Tree → Analysis → ℕ → Name → Tree
-renamed p a s name = with_name_in (bears_name a s) name p
+abbrev pub program_renamed : Tree → Analysis → ℕ → Name → Tree
+program_renamed p a s name = with_name_in (bears_name a s) name p

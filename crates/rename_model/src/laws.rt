@@ -9,7 +9,7 @@ ghost use Rattle.semantic_model.specs.Analysis.{analysis_of};
 ghost use Rattle.rename_model.specs.Alone.{BelongsTo, IsUnused};
 ghost use Rattle.rename_model.specs.Fixed.{FixesFirst, NoneFixes};
 ghost use Rattle.rename_model.specs.Refusal.{bad_name, fixed, differs, is_bad_name, rename};
-ghost use Rattle.rename_model.specs.Renamed.{renamed};
+ghost use Rattle.rename_model.specs.Renamed.{program_renamed};
 ghost use Rattle.rename_model.specs.WithName.{with_name_in, AreIdentifiers};
 ghost use Rattle.rename_model.specs.Same.{Same, DiffersFirstAt, first_difference};
 
@@ -28,7 +28,7 @@ pub fn differences_are_exact()
 pub fn what_is_renamed_means_the_same()
     ensures { (p : Tree) (s : ℕ) (new : Name) (q : Tree) → (rename p s new ≡ Ok q)
         ↔ ((is_bad_name new ≡ false) × NoneFixes p s × Same p q
-        × (q ≡ renamed p (analysis_of p) s new)) }
+        × (q ≡ program_renamed p (analysis_of p) s new)) }
 {}
 
 /// Each refusal comes exactly where it holds and none before it does: a bad name, the least node that fixes the old name,
@@ -40,7 +40,7 @@ pub fn refusals_are_exact()
         → (rename p s new ≡ Err (fixed node)) ↔ ((is_bad_name new ≡ false) × FixesFirst p s node) }
     ensures differs { (p : Tree) (s node : ℕ) (new : Name) → (rename p s new ≡ Err (differs node))
         ↔ ((is_bad_name new ≡ false) × NoneFixes p s
-        × DiffersFirstAt p (renamed p (analysis_of p) s new) node) }
+        × DiffersFirstAt p (program_renamed p (analysis_of p) s new) node) }
 {}
 
 /// A program without a fault has none where identifiers get a name that isn't empty, and properties lose the mark
@@ -58,11 +58,11 @@ pub fn renamed_programs_have_no_fault()
     ensures shaped { (p : Tree) (s : ℕ) (y : Symbol) (new : Name) → first_fault p ≡ None
         → IsNumbered p.root → slice_get (tables_of p).symbols s ≡ Some y
         → is_bad_name new ≡ false → NoneFixes p s
-        → first_fault (renamed p (analysis_of p) s new) ≡ None }
+        → first_fault (program_renamed p (analysis_of p) s new) ≡ None }
     ensures numbered { (p : Tree) (s : ℕ) (y : Symbol) (new : Name) → first_fault p ≡ None
         → IsNumbered p.root → slice_get (tables_of p).symbols s ≡ Some y
         → is_bad_name new ≡ false → NoneFixes p s
-        → IsNumbered (renamed p (analysis_of p) s new).root }
+        → IsNumbered (program_renamed p (analysis_of p) s new).root }
 {}
 
 /// Where every node with the name of a symbol belongs to it, that name is neither `arguments` nor `eval`, and no node has

@@ -3,7 +3,7 @@ use Rattle.std.proofs.Common.{◌≡◌, inl, inr, ℕ, List, Option, Result, Ok
 use Rattle.std.specs.Result.{IsErrAnd, IfErr}
 use Rattle.semantic_tree.specs.Tree.{Tree}
 use Rattle.semantic_tree.proofs.ShapedLaws.{IsShaped-no_fault}
-use Rattle.tree_json.specs.Reading.{listed, reading}
+use Rattle.tree_json.specs.Reading.{listed_program, reading}
 use Rattle.tree_json.proofs.Completes.{reading-form}
 use Rattle.tree_json.proofs.Ends.{read-as}
 use Rattle.report_ends.specs.Streams.{WriteCause, ReadKeeps, Writes}
@@ -20,7 +20,7 @@ use Rattle.program_ends.proofs.Inputs.{input_is}
 use Rattle.program_ends.proofs.Meanings.{stopped_reading, stopped_writing}
 use Rattle.renamer.specs.Answers.{IsAnswer, answer_to, program_text}
 use Rattle.renamer.specs.Meaning.{Answers, WritesText, GivesAnswer, Ends, IsGoodInput, end_due}
-use Rattle.renamer.specs.Requests.{Asked}
+use Rattle.renamer.specs.Requests.{RenameRequest}
 use Rattle.renamer.specs.declared.refusal.RequestError.{RequestError}
 use Rattle.renamer.specs.declared.refusal.RequestError.TheVariants as request_error
 use Rattle.renamer.proofs.Asking.{is_renamed}
@@ -39,7 +39,7 @@ some_text held faults old new piece text (Err cause) same writes = inr (subst (�
 
 -- ---- the answer
 
-answers : (asked : Asked) (p q : Tree) → answer_to asked p ≡ Ok q → Answers asked ends.done p (program_text q)
+answers : (asked : RenameRequest) (p q : Tree) → answer_to asked p ≡ Ok q → Answers asked ends.done p (program_text q)
 answers asked p q is = record { renamed = q; gives = is; is_renamed = is_renamed asked p q is; told = refl; ends = refl }
 
 no_refusal : (rose : Type 0) (cause : ReportError) → WriteCause rose cause → IsNotRefused cause
@@ -49,7 +49,7 @@ no_refusal rose error.Read why = tt
 no_refusal rose error.Write why = tt
 no_refusal rose error.Memory why = tt
 
-module _ {K : Type 0} (held : K → Option (List ℕ)) (faults : K → ℕ) (asked : Asked) (p : Tree) where
+module _ {K : Type 0} (held : K → Option (List ℕ)) (faults : K → ℕ) (asked : RenameRequest) (p : Tree) where
   -- there is no answer
   pub gives_none : (old : K) (e : RequestError) (result : Result Unit RequestError) → IsAnswer asked p (Err e) → IsErrAnd result (λ told. told ≡ e) → GivesAnswer held faults old old asked p result
   gives_none old e (Ok done) is same = absurd same
@@ -99,7 +99,7 @@ unfound_failing source out cause (Ok done) wrote read same = absurd same
 unfound_failing source out cause (Err told) wrote read same = subst (λ e. FaultsEnd source out (end_due (Err e))) (sym same) (unread_due source out cause wrote read)
 
 -- no program is found
-pub ends_unfound : (asked : Asked) (source : SourceCall) (out : SinkCall) (cause : ReportError) (result : Result Unit RequestError) → Untouched out → NotFound source cause → IsErrAnd result (λ told. told ≡ request_error.Stopped cause) → Ends asked source out result
+pub ends_unfound : (asked : RenameRequest) (source : SourceCall) (out : SinkCall) (cause : ReportError) (result : Result Unit RequestError) → Untouched out → NotFound source cause → IsErrAnd result (λ told. told ≡ request_error.Stopped cause) → Ends asked source out result
 ends_unfound asked source out cause (Ok done) untouched why same = absurd same
 ends_unfound asked source out cause (Err told) untouched why same =
     subst (λ x. Ends asked source out (Err x)) (sym same) (stopped_reading (Unit {0}) (Finds Stands) (Answers asked) source out cause tt untouched why)
@@ -110,7 +110,7 @@ unfound_good cause (Err told) kept same = subst IsGoodInput (sym same) kept
 
 -- ---- one program
 
-reads : (input : List ℕ) (p : Tree) → Stands input p → reading input ≡ Ok (listed p)
+reads : (input : List ℕ) (p : Tree) → Stands input p → reading input ≡ Ok (listed_program p)
 reads input p s = reading-form input s.value p s.utf8 s.read s.written (IsShaped-no_fault p s.shaped)
 
 -- an input stands for one program

@@ -8,7 +8,7 @@ use Rattle.rename_model.specs.Refusal.{bad_name, fixed, differs, rename}
 use Rattle.rename_model.specs.Refusal as model
 use Rattle.report_ends.specs.declared.error.ReportError.TheVariants as error
 use Rattle.renamer.specs.Answers.{IsAnswer, HasSymbol, IsRenamed, IsRefusedAs, answer_to, renaming_of}
-use Rattle.renamer.specs.Requests.{Asked}
+use Rattle.renamer.specs.Requests.{RenameRequest}
 use Rattle.renamer.specs.declared.error.RenameError.TheVariants as rename_error
 use Rattle.renamer.specs.declared.refusal.Refusal.{Refusal}
 use Rattle.renamer.specs.declared.refusal.Refusal.TheVariants.{NoSymbol, BadName, Fixed, Differs}
@@ -16,7 +16,7 @@ use Rattle.renamer.specs.declared.refusal.RequestError.{RequestError}
 use Rattle.renamer.specs.declared.refusal.RequestError.TheVariants.{Stopped}
 use Rattle.renamer.proofs.Outcomes.{renaming_of as renaming_by, refused_for}
 
-module _ (asked : Asked) (p : Tree) where
+module _ (asked : RenameRequest) (p : Tree) where
   by_test : (b : Bool) → nat_lt asked.symbol (length (tables_of p).symbols) ≡ b → answer_to asked p ≡ (if b then renaming_of (rename p asked.symbol asked.name) else Err (NoSymbol asked.symbol))
   by_test b is = ap (λ t. if t then renaming_of (rename p asked.symbol asked.name) else Err (NoSymbol asked.symbol)) is
 
@@ -31,7 +31,7 @@ ok_of : (r : Result Tree model.Refusal) (q : Tree) → renaming_of r ≡ Ok q �
 ok_of (Ok t) q h = let same : t ≡ q = cc in ap Ok same
 ok_of (Err e) q h = absurd (cc)
 
-module _ (asked : Asked) (p : Tree) where
+module _ (asked : RenameRequest) (p : Tree) where
   abbrev has : Bool
   has = nat_lt asked.symbol (length (tables_of p).symbols)
 

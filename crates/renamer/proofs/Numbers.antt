@@ -5,7 +5,7 @@ use Rattle.std.specs.Char.{is_ascii_digit}
 use Rattle.std.specs.List.{list_all}
 use Rattle.std.specs.Result.{OkIff}
 use Rattle.std.specs.Str.Parse.{digits_value, ParsesUnsigned}
-use Rattle.renamer.specs.Requests.{has_leading_zero, is_plain_number, symbol_of}
+use Rattle.renamer.specs.Requests.{has_leading_zero, is_plain_number, symbol_number}
 
 own : IsNumeralModel (λ ds. list_all is_ascii_digit ds ≡ true) (digits_value 10)
 own = numerals_by_value _ (search rules)
@@ -27,7 +27,7 @@ read_as word r plain parsed =
     go (Err e) h l = λ small. h (l, small)
 
 -- a number that is too great for any symbol
-pub too_great : {E : Type 0} (word : List ℕ) (e : E) → is_plain_number word ≡ true → ParsesUnsigned 32 10 word (Err e) → None ≡ symbol_of word
+pub too_great : {E : Type 0} (word : List ℕ) (e : E) → is_plain_number word ≡ true → ParsesUnsigned 32 10 word (Err e) → None ≡ symbol_number word
 too_great word e plain parsed =
     let large : digits_value 10 word < 2 ^ 32 → ⊥ = read_as word (Err e) plain parsed in
     let not_less : nat_lt (digits_value 10 word) 4294967295 ≡ false = grind (arith, tests, large) in

@@ -15,7 +15,7 @@ use Rattle.semantic_tree.specs.Tree.{Tree, IsNumbered}
 use Rattle.semantic_model.specs.Analysis.{Analysis, analysis_of}
 use Rattle.semantic_model.specs.Exported.{exported_names}
 use Rattle.rename_model.specs.Refusal.{bad_name, fixed, differs, is_bad_name, first_fixed, compared, unless_fixed, unless_bad, rename}
-use Rattle.rename_model.specs.Renamed.{bears_name, renamed}
+use Rattle.rename_model.specs.Renamed.{bears_name, program_renamed}
 use Rattle.rename_model.specs.Same.{first_difference}
 use Rattle.rename_model.specs.WithName.{AreIdentifiers}
 use Rattle.rename_model.proofs.AloneNames.{are_identifiers}
@@ -60,11 +60,11 @@ module _ (p : Tree) (s : ℕ) (new : Name) where
   pub comes_fixed : is_bad_name new ≡ false → (node : ℕ) → fixing ≡ Some node → rename p s new ≡ Err (fixed node)
   comes_fixed bad node e = by_name bad ∙ ap (unless_fixed p (analysis_of p) (bears_name (analysis_of p) s) new) e
 
-  unfixed : is_bad_name new ≡ false → fixing ≡ None → rename p s new ≡ compared p (analysis_of p) (renamed p (analysis_of p) s new) (first_difference (analysis_of p) (analysis_of (renamed p (analysis_of p) s new)) 0 (node_count p.root))
+  unfixed : is_bad_name new ≡ false → fixing ≡ None → rename p s new ≡ compared p (analysis_of p) (program_renamed p (analysis_of p) s new) (first_difference (analysis_of p) (analysis_of (program_renamed p (analysis_of p) s new)) 0 (node_count p.root))
   unfixed bad e = by_name bad ∙ ap (unless_fixed p (analysis_of p) (bears_name (analysis_of p) s) new) e
 
   -- of the program that is made, whose nodes are as many
-  pub comes_compared : is_bad_name new ≡ false → fixing ≡ None → (q : Tree) → q ≡ renamed p (analysis_of p) s new → node_count q.root ≡ node_count p.root → (r : Result Tree RenameError) → Compares (analysis_of p) q r → Comes p s new r
+  pub comes_compared : is_bad_name new ≡ false → fixing ≡ None → (q : Tree) → q ≡ program_renamed p (analysis_of p) s new → node_count q.root ≡ node_count p.root → (r : Result Tree RenameError) → Compares (analysis_of p) q r → Comes p s new r
   comes_compared bad e q is count r h = go r h
     where
       found : (o : Option ℕ) → first_difference (analysis_of p) (analysis_of q) 0 (node_count q.root) ≡ o → rename p s new ≡ compared p (analysis_of p) q o
@@ -101,7 +101,7 @@ module _ (p : Tree) (s : ℕ) (new : Name) (a : Analysis) (e : a ≡ analysis_of
       subst (λ (x : Analysis). AreIdentifiers (bears_name x s) p.root.children) (sym e)
       (are_identifiers p faultless numbered s (get_or (tables_of p).symbols s no_symbol) (slice_get-get_or (tables_of p).symbols s no_symbol within) (sym (f ∙ same_fixing)))
 
-  pub compared_by : None ≡ fixing_by → (q : Tree) → q ≡ renamed p a s new → (r : Result Tree RenameError) → Compares a q r → Comes p s new r
+  pub compared_by : None ≡ fixing_by → (q : Tree) → q ≡ program_renamed p a s new → (r : Result Tree RenameError) → Compares a q r → Comes p s new r
   compared_by f q is r h =
-      comes_compared p s new bad (sym (f ∙ same_fixing)) q (is ∙ ap (λ (x : Analysis). renamed p x s new) e) (ap (λ (t : Tree). node_count t.root) is ∙ as_many (bears_name a s) new p) r
+      comes_compared p s new bad (sym (f ∙ same_fixing)) q (is ∙ ap (λ (x : Analysis). program_renamed p x s new) e) (ap (λ (t : Tree). node_count t.root) is ∙ as_many (bears_name a s) new p) r
       (subst (λ (x : Analysis). Compares x q r) e h)

@@ -10,7 +10,7 @@ use Rattle.program_ends.specs.Lines.{numbered_line}
 use Rattle.rename_model.specs.Refusal.{bad_name, fixed, differs, rename}
 use Rattle.rename_model.specs.Refusal as model
 use Rattle.renamer.specs.Outcome.{IsRenaming, IsRefusedFor}
-use Rattle.renamer.specs.Requests.{Asked}
+use Rattle.renamer.specs.Requests.{RenameRequest}
 use Rattle.renamer.specs.declared.error.RenameError.{RenameError}
 use Rattle.renamer.specs.declared.error.RenameError.TheVariants as rename_error
 use Rattle.renamer.specs.declared.refusal.Refusal.{Refusal}
@@ -18,32 +18,32 @@ use Rattle.renamer.specs.declared.refusal.Refusal.TheVariants.{NoSymbol, BadName
 use Rattle.renamer.specs.declared.refusal.RequestError.{RequestError}
 use Rattle.renamer.specs.declared.refusal.RequestError.TheVariants.{Refused, Stopped}
 
-abbrev pub refusal_of : model.Refusal → Refusal
-refusal_of bad_name = BadName
-refusal_of (fixed node) = Fixed node
-refusal_of (differs node) = Differs node
+abbrev pub refusal_shown : model.Refusal → Refusal
+refusal_shown bad_name = BadName
+refusal_shown (fixed node) = Fixed node
+refusal_shown (differs node) = Differs node
 
 abbrev pub renaming_of : Result Tree model.Refusal → Result Tree Refusal
 renaming_of (Ok q) = Ok q
-renaming_of (Err refusal) = Err (refusal_of refusal)
+renaming_of (Err refusal) = Err (refusal_shown refusal)
 
 -- the program in which the symbol that is asked for has the name, or the refusal
-abbrev pub answer_to : Asked → Tree → Result Tree Refusal
+abbrev pub answer_to : RenameRequest → Tree → Result Tree Refusal
 answer_to asked p = if nat_lt asked.symbol (length (tables_of p).symbols) then renaming_of (rename p asked.symbol asked.name) else Err (NoSymbol asked.symbol)
 
 -- ---- as relations
 
 -- the program has the symbol that is asked for
-abbrev pub HasSymbol : Asked → Tree → Type 0
+abbrev pub HasSymbol : RenameRequest → Tree → Type 0
 HasSymbol asked p = asked.symbol < length (tables_of p).symbols
 
 -- the symbol has the name, no node that has it fixes the old one, and each node means the same
-pub record IsRenamed (asked : Asked) (p q : Tree) : Type 0 where
+pub record IsRenamed (asked : RenameRequest) (p q : Tree) : Type 0 where
   pub there : HasSymbol asked p
   pub renaming : IsRenaming p asked.symbol asked.name q
 
 -- why a request is refused: there is no such symbol, or it can't have the name
-abbrev pub IsRefusedAs : Asked → Tree → Refusal → Type 0
+abbrev pub IsRefusedAs : RenameRequest → Tree → Refusal → Type 0
 IsRefusedAs asked p (NoSymbol symbol) = (symbol ≡ asked.symbol) × (length (tables_of p).symbols ≤ symbol)
 IsRefusedAs asked p BadName = HasSymbol asked p × IsRefusedFor p asked.symbol asked.name rename_error.BadName
 IsRefusedAs asked p (Fixed node) = HasSymbol asked p × IsRefusedFor p asked.symbol asked.name (rename_error.Fixed node)
@@ -72,7 +72,7 @@ error_of (rename_error.Differs node) = Refused (Differs node)
 error_of (rename_error.Memory wanting) = Stopped error.Memory
 
 -- the program or the refusal that is due, or want of memory
-abbrev pub IsAnswer : Asked → Tree → Result Tree RequestError → Type 0
+abbrev pub IsAnswer : RenameRequest → Tree → Result Tree RequestError → Type 0
 IsAnswer asked p (Ok q) = answer_to asked p ≡ Ok q
 IsAnswer asked p (Err (Refused refusal)) = answer_to asked p ≡ Err refusal
 IsAnswer asked p (Err (Stopped cause)) = cause ≡ error.Memory

@@ -14,7 +14,7 @@ use Rattle.program_ends.specs.Reads.{Stands, RefusedFor}
 use Rattle.program_ends.specs.Telling.{stop_of}
 use Rattle.renamer.specs.Answers.{answer_to, IsRenamed, IsRefusedAs, program_text, refusal_line}
 use Rattle.renamer.specs.Codes.{end_of}
-use Rattle.renamer.specs.Requests.{Asked, request_of}
+use Rattle.renamer.specs.Requests.{RenameRequest, request_of}
 use Rattle.renamer.specs.Telling.{usage_line}
 use Rattle.renamer.specs.declared.refusal.Refusal.{Refusal}
 use Rattle.renamer.specs.declared.refusal.RequestError.{RequestError}
@@ -24,7 +24,7 @@ use Rattle.renamer.specs.declared.status.RenameStatus.{RenameStatus}
 -- ---- what is answered
 
 -- the text is the renamed program's, and this is the end for it
-pub record Answers (asked : Asked) (end : End) (p : Tree) (text : List ℕ) : Type 0 where
+pub record Answers (asked : RenameRequest) (end : End) (p : Tree) (text : List ℕ) : Type 0 where
   pub renamed : Tree
   pub gives : answer_to asked p ≡ Ok renamed
   pub is_renamed : IsRenamed asked p renamed
@@ -32,7 +32,7 @@ pub record Answers (asked : Asked) (end : End) (p : Tree) (text : List ℕ) : Ty
   pub ends : end ≡ ends.done
 
 -- the line is that on the refusal
-pub record Refuses (asked : Asked) (p : Tree) (line : List ℕ) : Type 0 where
+pub record RefusesRequest (asked : RenameRequest) (p : Tree) (line : List ℕ) : Type 0 where
   pub refusal : Refusal
   pub gives : answer_to asked p ≡ Err refusal
   pub why : IsRefusedAs asked p refusal
@@ -44,14 +44,14 @@ WritesText held faults old new text (Ok done) = Writes held faults old new text 
 WritesText held faults old new text (Err cause) = ((cause ≡ error.Memory) × (held new ≡ held old)) ⊎ Writes held faults old new text (Err cause)
 
 -- the sink has taken the answer about the program, or a prefix of it; or there is none, since it is refused or memory was wanting
-abbrev pub GivesAnswer : {K : Type 0} → (K → Option (List ℕ)) → (K → ℕ) → K → K → Asked → Tree → Result Unit RequestError → Type 0
+abbrev pub GivesAnswer : {K : Type 0} → (K → Option (List ℕ)) → (K → ℕ) → K → K → RenameRequest → Tree → Result Unit RequestError → Type 0
 GivesAnswer held faults old new asked p (Ok done) = (text : List ℕ) × Answers asked ends.done p text × Writes held faults old new text (Ok done)
 GivesAnswer held faults old new asked p (Err (request_error.Refused refusal)) = (answer_to asked p ≡ Err refusal) × (held new ≡ held old) × (faults new ≡ faults old)
 GivesAnswer held faults old new asked p (Err (request_error.Stopped cause)) =
     ((cause ≡ error.Memory) × (held new ≡ held old)) ⊎ ((text : List ℕ) × Answers asked ends.done p text × Writes held faults old new text (Err cause))
 
 -- what becomes of a request, before it is told
-abbrev pub Ends : Asked → SourceCall → SinkCall → Result Unit RequestError → Type 0
+abbrev pub Ends : RenameRequest → SourceCall → SinkCall → Result Unit RequestError → Type 0
 Ends asked source out (Ok done) = Answered (Finds Stands) (Answers asked) source out ends.done
 Ends asked source out (Err (request_error.Refused refusal)) = Untouched out × ((p : Tree) × Finds Stands source p × (answer_to asked p ≡ Err refusal))
 Ends asked source out (Err (request_error.Stopped cause)) = Stopped (Unit {0}) (Finds Stands) (Answers asked) source out cause
@@ -65,22 +65,22 @@ end_due (Err (request_error.Stopped cause)) = ends.end_of_stop (stop_of cause)
 -- ---- the whole program
 
 -- the words ask for something
-abbrev pub IsAsked : Option Asked → Type 0
+abbrev pub IsAsked : Option RenameRequest → Type 0
 IsAsked None = ⊥
 IsAsked (Some asked) = Unit {0}
 
 -- what is answered
-abbrev pub AnswersTo : Option Asked → End → Tree → List ℕ → Type 0
+abbrev pub AnswersTo : Option RenameRequest → End → Tree → List ℕ → Type 0
 AnswersTo None end p text = ⊥
 AnswersTo (Some asked) end p text = Answers asked end p text
 
 -- what is refused
-abbrev pub RefusesTo : Option Asked → Tree → List ℕ → Type 0
+abbrev pub RefusesTo : Option RenameRequest → Tree → List ℕ → Type 0
 RefusesTo None p line = ⊥
-RefusesTo (Some asked) p line = Refuses asked p line
+RefusesTo (Some asked) p line = RefusesRequest asked p line
 
 -- what the program has done at a status, by what the words ask for
-abbrev pub MeansBy : Option Asked → SourceCall → SinkCall → SinkCall → RenameStatus → Type 0
+abbrev pub MeansBy : Option RenameRequest → SourceCall → SinkCall → SinkCall → RenameStatus → Type 0
 MeansBy asked source out errs status =
     ends.Means (IsAsked asked) usage_line Stands RefusedFor tree_line (AnswersTo asked) (RefusesTo asked) source out errs (end_of status)
 

@@ -7,7 +7,7 @@ use Rattle.semantic_tree.specs.Tree.{Tree}
 use Rattle.semantic_model.specs.Analysis.{Analysis, analysis_of}
 use Rattle.rename_model.specs.Fixed.{FixesFirst, NoneFixes}
 use Rattle.rename_model.specs.Refusal.{bad_name, fixed, differs, is_bad_name, rename}
-use Rattle.rename_model.specs.Renamed.{renamed}
+use Rattle.rename_model.specs.Renamed.{program_renamed}
 use Rattle.rename_model.specs.Same.{Same, DiffersFirstAt, first_difference}
 use Rattle.renamer.specs.declared.error.RenameError.{RenameError}
 use Rattle.renamer.specs.declared.error.RenameError.TheVariants.{BadName, Fixed, Differs, Memory}
@@ -25,13 +25,13 @@ pub record IsRenaming (p : Tree) (s : ℕ) (new : Name) (q : Tree) : Type 0 wher
   pub good : is_bad_name new ≡ false
   pub unfixed : NoneFixes p s
   pub same : Same p q
-  pub is_renamed : q ≡ renamed p (analysis_of p) s new
+  pub is_renamed : q ≡ program_renamed p (analysis_of p) s new
 
 -- why a renaming is refused: the first cause of three, with its least node
 abbrev pub IsRefusedFor : Tree → ℕ → Name → RenameError → Type 0
 IsRefusedFor p s new BadName = is_bad_name new ≡ true
 IsRefusedFor p s new (Fixed node) = (is_bad_name new ≡ false) × FixesFirst p s node
-IsRefusedFor p s new (Differs node) = (is_bad_name new ≡ false) × NoneFixes p s × DiffersFirstAt p (renamed p (analysis_of p) s new) node
+IsRefusedFor p s new (Differs node) = (is_bad_name new ≡ false) × NoneFixes p s × DiffersFirstAt p (program_renamed p (analysis_of p) s new) node
 IsRefusedFor p s new (Memory wanting) = Unit {0}
 
 -- no node is said to differ
@@ -40,9 +40,9 @@ NeverDiffers (Err (Differs node)) = ⊥
 NeverDiffers other = Unit {0}
 
 -- where the analysis of a program first differs from another
-abbrev pub Finds : Analysis → Tree → Result (Option ℕ) AllocError → Type 0
-Finds a q (Ok found) = first_difference a (analysis_of q) 0 (node_count q.root) ≡ found
-Finds a q (Err wanting) = Unit {0}
+abbrev pub FindsDifference : Analysis → Tree → Result (Option ℕ) AllocError → Type 0
+FindsDifference a q (Ok found) = first_difference a (analysis_of q) 0 (node_count q.root) ≡ found
+FindsDifference a q (Err wanting) = Unit {0}
 
 -- the program, unless its analysis differs from another
 abbrev pub Compares : Analysis → Tree → Result Tree RenameError → Type 0

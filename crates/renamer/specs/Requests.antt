@@ -9,12 +9,12 @@ use Rattle.semantic_syntax.specs.Tables.{Name}
 use Rattle.renamer.specs.declared.request.Request.{Request}
 
 -- a symbol, and the name that it is to have
-pub record Asked : Type 0 where
+pub record RenameRequest : Type 0 where
   pub symbol : ℕ
   pub name : Name
 
-abbrev pub asked_by : Request → Asked
-asked_by request = record { symbol = request.symbol; name = chars request.name.now }
+abbrev pub asked_in_request : Request → RenameRequest
+asked_in_request request = record { symbol = request.symbol; name = chars request.name.now }
 
 -- a zero stands before other digits
 abbrev pub has_leading_zero : List ℕ → Bool
@@ -25,10 +25,10 @@ abbrev pub is_plain_number : List ℕ → Bool
 is_plain_number word = nat_lt 0 (length word) && not (has_leading_zero word) && list_all is_ascii_digit word
 
 -- the number so written, where a symbol may have it
-abbrev pub symbol_of : List ℕ → Option ℕ
-symbol_of word = if is_plain_number word && nat_lt (digits_value 10 word) 4294967295 then Some (digits_value 10 word) else None
+abbrev pub symbol_number : List ℕ → Option ℕ
+symbol_number word = if is_plain_number word && nat_lt (digits_value 10 word) 4294967295 then Some (digits_value 10 word) else None
 
 -- a symbol's number and a name, or none where the words aren't two such
-abbrev pub request_of : List (String Global) → Option Asked
-request_of (number ∷ name ∷ []) = option_map (λ s. record { symbol = s; name = chars (string_bytes name) }) (symbol_of (string_bytes number))
+abbrev pub request_of : List (String Global) → Option RenameRequest
+request_of (number ∷ name ∷ []) = option_map (λ s. record { symbol = s; name = chars (string_bytes name) }) (symbol_number (string_bytes number))
 request_of _ = None

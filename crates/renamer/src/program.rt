@@ -8,7 +8,7 @@ ghost use Rattle.program_ends.specs.Reads.{Stands};
 ghost use Rattle.renamer.specs.Answers.{answer_to, program_text};
 ghost use Rattle.renamer.specs.Codes.{end_of};
 ghost use Rattle.renamer.specs.Meaning.{WritesText, GivesAnswer, Ends, Means, IsGoodInput, IsOrMemory, end_due, end_for};
-ghost use Rattle.renamer.specs.Requests.{Asked, asked_by, request_of};
+ghost use Rattle.renamer.specs.Requests.{RenameRequest, asked_in_request, request_of};
 
 use crate::refusal::RequestError;
 use crate::rename::{drop_program, rename_asked};
@@ -37,7 +37,7 @@ fn answer<K: Sink>(
     out: &mut K,
 ) -> Result<(), RequestError>
     ensures { GivesAnswer K.held K.faults out.old out.new
-        (asked_by request.now) program.now result }
+        (asked_in_request request.now) program.now result }
 {
     let made = rename_asked(alloc, program, request)?;
     let written = write_text(alloc, &made, out);
@@ -53,7 +53,8 @@ fn answer_request<S: Source, K: Sink>(
     source: &mut S,
     out: &mut K,
 ) -> Result<(), RequestError>
-    ensures ends { Ends (asked_by request.now) (source_call S.left S.faults source.old source.new)
+    ensures ends { Ends (asked_in_request request.now)
+        (source_call S.left S.faults source.old source.new)
         (sink_call K.held K.faults out.old out.new) result }
     ensures failing { FaultsEnd (source_call S.left S.faults source.old source.new)
         (sink_call K.held K.faults out.old out.new) (end_due result) }
@@ -82,7 +83,7 @@ pub fn run_rename<S: Source, K: Sink, E: Sink>(
     ensures failing { FaultsEnd (source_call S.left S.faults source.old source.new)
         (sink_call K.held K.faults out.old out.new) (end_of result) }
     // Where no end fails and the input stands for a program, it is renamed where that is not refused, but for want of memory.
-    ensures complete { (asked : Asked) → request_of words.now ≡ Some asked
+    ensures complete { (asked : RenameRequest) → request_of words.now ≡ Some asked
         → (clear : IsClear (source_call S.left S.faults source.old source.new)
         (sink_call K.held K.faults out.old out.new))
         → IsOrMemory (end_for (answer_to asked clear.program)) (end_of result) }

@@ -8,8 +8,8 @@ ghost use Rattle.semantic_model.specs.Analysis.{analysis_of};
 ghost use Rattle.renamer.specs.Told.{told_by};
 ghost use Rattle.rename_model.specs.Alone.{BelongsTo, IsUnused};
 ghost use Rattle.renamer.specs.Answers.{IsAnswer};
-ghost use Rattle.renamer.specs.Outcome.{Comes, Compares, Finds, IsRenaming, IsRefusedFor, NeverDiffers};
-ghost use Rattle.renamer.specs.Requests.{asked_by};
+ghost use Rattle.renamer.specs.Outcome.{Comes, Compares, FindsDifference, IsRenaming, IsRefusedFor, NeverDiffers};
+ghost use Rattle.renamer.specs.Requests.{asked_in_request};
 
 use crate::analysed::Analysed;
 use crate::bearing::is_bad_name;
@@ -44,7 +44,7 @@ fn difference(
     analysed: &Analysed<'_>,
     made: &Program,
 ) -> Result<Option<NodeId>, AllocError>
-    ensures { Finds (told_by analysed.now) made.now result }
+    ensures { FindsDifference (told_by analysed.now) made.now result }
 {
     let analysis = SemanticBuilder::new().build(alloc, made)?;
     let found = first_difference(analysed, &analysed_by(&analysis), made.node_count());
@@ -134,7 +134,7 @@ fn rename_known(
 ) -> Result<Program, RequestError>
     requires analysis { told_by analysed.now ≡ analysis_of program.now }
     requires tables { analysed.now.scoping.now ≡ tables_of program.now }
-    ensures { IsAnswer (asked_by request.now) program.now result }
+    ensures { IsAnswer (asked_in_request request.now) program.now result }
 {
     if request.symbol.index() >= analysed.scoping.symbols_len() {
         return Err(RequestError::Refused(Refusal::NoSymbol(request.symbol)));
@@ -150,7 +150,7 @@ pub(crate) fn rename_asked(
     program: &Program,
     request: &Request<'_>,
 ) -> Result<Program, RequestError>
-    ensures { IsAnswer (asked_by request.now) program.now result }
+    ensures { IsAnswer (asked_in_request request.now) program.now result }
 {
     let analysis = SemanticBuilder::new().build(alloc, program)?;
     let result = rename_known(alloc, program, &analysed_by(&analysis), request);

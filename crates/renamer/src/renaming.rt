@@ -8,7 +8,7 @@ ghost use Rattle.semantic_tree.specs.Forest.{join};
 ghost use Rattle.semantic_tree.specs.Tree.{numbered_tree};
 ghost use Rattle.program_laws.specs.ReadMarks.{without_mark, without_where};
 ghost use Rattle.renamer.specs.Told.{told_by};
-ghost use Rattle.rename_model.specs.Renamed.{bears_name, renamed};
+ghost use Rattle.rename_model.specs.Renamed.{bears_name, program_renamed};
 ghost use Rattle.rename_model.specs.WithName.{is_named_value, sheds, with_name, AreIdentifiers};
 ghost use Rattle.renamer.specs.Renaming.{IsKnown, AreKnown, alone, with_kept};
 
@@ -211,7 +211,7 @@ pub fn renamed(
     requires identifiers { AreIdentifiers
         (bears_name (told_by analysed.now) symbol) program.now.root.children }
     ensures { IfOk result (λ made. made
-        ≡ renamed program.now (told_by analysed.now) symbol (chars new.now)) }
+        ≡ program_renamed program.now (told_by analysed.now) symbol (chars new.now)) }
 {
     let root = renamed_root(alloc, analysed, symbol, new, program.root().node())?;
     let source = Text::new(alloc, program.source_text())?;

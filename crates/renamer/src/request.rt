@@ -2,7 +2,7 @@
 ghost use Rattle.std.specs.Prelude.{◌≡◌, option_map};
 ghost use Rattle.std.specs.Char.{is_ascii_digit};
 ghost use Rattle.std.specs.List.{list_all};
-ghost use Rattle.renamer.specs.Requests.{asked_by, has_leading_zero, is_plain_number, request_of, symbol_of};
+ghost use Rattle.renamer.specs.Requests.{asked_in_request, has_leading_zero, is_plain_number, request_of, symbol_number};
 
 use semantic_syntax::SymbolId;
 
@@ -39,7 +39,7 @@ fn is_plain_number(word: &str) -> bool
 
 /// The symbol whose number the word is.
 fn read_symbol(word: &str) -> Option<SymbolId>
-    ensures { result ≡ symbol_of word.now }
+    ensures { result ≡ symbol_number word.now }
 {
     if !is_plain_number(word) {
         return None;
@@ -55,7 +55,7 @@ fn read_symbol(word: &str) -> Option<SymbolId>
 
 /// What the words ask for, or none where they aren't the number of a symbol and a name.
 pub(crate) fn read_words(words: &[String]) -> Option<Request<'_>>
-    ensures { option_map asked_by result ≡ request_of words.now }
+    ensures { option_map asked_in_request result ≡ request_of words.now }
 {
     let [number, name] = words else {
         return None;

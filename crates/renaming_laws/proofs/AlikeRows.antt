@@ -15,7 +15,7 @@ use Rattle.semantic_tree.specs.Views.{is, has}
 use Rattle.semantic_model.specs.Names.{bound_names}
 use Rattle.semantic_model.specs.Place.{Place, OpenScope, is_strict, parent_holds}
 use Rattle.semantic_model.specs.Declaration.{plain, hoisted, moved, caught, Declaration, here, outward_to, outward_past}
-use Rattle.semantic_model.specs.Binder.{Row, declare, declare_here, marked_ambient, is_var, is_pure_function, is_pure_declarator, variable_row, variables_under, is_statement, function_flags, is_block_function, function_row, own_function_row, parameter_excluded, parameters_under, catch_names}
+use Rattle.semantic_model.specs.Binder.{BinderRow, declaration_at, declare_here, marked_ambient, is_var, is_pure_function, is_pure_declarator, variable_row, variables_under, is_statement, function_flags, is_block_function, function_row, own_function_row, parameter_excluded, parameters_under, catch_names}
 use Rattle.semantic_model.proofs.form.Clauses.{kind_is}
 use Rattle.semantic_model.proofs.swapped.Alike.{is_name}
 use Rattle.semantic_model.proofs.swapped.AlikeCursor.{with_text, SameNode}
@@ -28,11 +28,11 @@ module _ (f : Name → Name) where
   abbrev pub ren : List Declaration → List Declaration
   ren ds = map (renamed_declaration f) ds
 
-  pub rows_changed : (node : Node) (u : Name) (g : Forest) (row : Row) (is_pure : Bool) (xs ys : List Node) → Changed f xs ys → map (declare (with_text node u g) row is_pure) ys ≡ ren (map (declare node row is_pure) xs)
+  pub rows_changed : (node : Node) (u : Name) (g : Forest) (row : BinderRow) (is_pure : Bool) (xs ys : List Node) → Changed f xs ys → map (declaration_at (with_text node u g) row is_pure) ys ≡ ren (map (declaration_at node row is_pure) xs)
   rows_changed node u g row is_pure [] [] h = refl
   rows_changed node u g row is_pure [] (y ∷ ys) h = absurd h
   rows_changed node u g row is_pure (x ∷ xs) [] h = absurd h
-  rows_changed node u g row is_pure (x ∷ xs) (y ∷ ys) h = λ i. declare (with_text node u g) row is_pure (h.0.1 i) ∷ rows_changed node u g row is_pure xs ys h.1 i
+  rows_changed node u g row is_pure (x ∷ xs) (y ∷ ys) h = λ i. declaration_at (with_text node u g) row is_pure (h.0.1 i) ∷ rows_changed node u g row is_pure xs ys h.1 i
 
   pub here_changed : (p : Place) (u : Name) (g : Forest) (path : List Node) (flags excluded : ℕ) (xs ys : List Node) → Changed f xs ys → declare_here (re p u g path) flags excluded ys ≡ ren (declare_here p flags excluded xs)
   here_changed p u g path flags excluded xs ys h = rows_changed p.node u g (record { flags = flags; excluded = excluded; how = plain; route = here p.chain }) false xs ys h
@@ -59,7 +59,7 @@ module _ (f : Name → Name) where
   parent_typed (x ∷ xs) (y ∷ ys) h = ap (has mark.TypeOnly) h.0.2
 
   -- a variable's row
-  variable_by : Node → List OpenScope → Bool → Bool → Row
+  variable_by : Node → List OpenScope → Bool → Bool → BinderRow
   variable_by x chain v l =
       if v then record { flags = union symbol.FunctionScopedVariable.bits (marked_ambient x); excluded = symbol.FunctionScopedVariableExcludes.bits; how = hoisted; route = outward_to is_var chain }
       else record { flags = union (cond l symbol.BlockScopedVariable.bits (union symbol.BlockScopedVariable.bits symbol.ConstVariable.bits)) (marked_ambient x); excluded = symbol.BlockScopedVariableExcludes.bits; how = plain; route = here chain }
@@ -76,13 +76,13 @@ module _ (f : Name → Name) where
   variables_same p u g path path' [] (y ∷ ys) s h = absurd h
   variables_same p u g path path' (x ∷ xs) [] s h = absurd h
   variables_same p u g path path' (x ∷ xs) (y ∷ ys) s h = let (v, w, e, t) = h.0 in
-      ap (λ z. map (declare (with_text p.node u g) (variable_row z p.chain) (is_pure_declarator (with_text p.node u g))) (bound_names (with_text p.node u g))) e
-      ∙ ap (λ row. map (declare (with_text p.node u g) row (is_pure_declarator (with_text p.node u g))) (bound_names (with_text p.node u g))) (variable_same x v w p.chain t)
-      ∙ ap (λ b. map (declare (with_text p.node u g) (variable_row x p.chain) b) (bound_names (with_text p.node u g))) (pure_same p.node u g s)
+      ap (λ z. map (declaration_at (with_text p.node u g) (variable_row z p.chain) (is_pure_declarator (with_text p.node u g))) (bound_names (with_text p.node u g))) e
+      ∙ ap (λ row. map (declaration_at (with_text p.node u g) row (is_pure_declarator (with_text p.node u g))) (bound_names (with_text p.node u g))) (variable_same x v w p.chain t)
+      ∙ ap (λ b. map (declaration_at (with_text p.node u g) (variable_row x p.chain) b) (bound_names (with_text p.node u g))) (pure_same p.node u g s)
       ∙ rows_changed p.node u g (variable_row x p.chain) (is_pure_declarator p.node) (bound_names p.node) (bound_names (with_text p.node u g)) (bound_changed f p.node u g s)
 
   -- a function's row
-  function_by : Place → Bool → Row
+  function_by : Place → Bool → BinderRow
   function_by p b =
       if is_block_function p
       then record { flags = function_flags p.node; excluded = (if is_typescript p.source_type then symbol.FunctionExcludes.bits else if is_statement p.node && not (is_strict p.chain) && b then 0 else without 32 symbol.FunctionExcludes.bits symbol.FunctionScopedVariable.bits); how = moved; route = outward_past is_var p.chain }
@@ -92,7 +92,7 @@ module _ (f : Name → Name) where
   unfolding function_by
   function_same p g path a = ap (function_by p) (parent_kind kind.IfStatement p.path path a)
 
-  own_by : Place → OpenScope → Bool → Row
+  own_by : Place → OpenScope → Bool → BinderRow
   own_by p own b = record { flags = function_flags p.node; excluded = (if is_typescript p.source_type then symbol.FunctionExcludes.bits else if is_statement p.node && not (is_strict p.chain) && b then 0 else without 32 symbol.FunctionExcludes.bits symbol.FunctionScopedVariable.bits); how = plain; route = here (own ∷ []) }
 
   pub own_same : (p : Place) (g : Forest) (path : List Node) (own : OpenScope) → AlikePath f p.path path → own_function_row (re p p.node.text g path) own ≡ own_function_row p own
@@ -120,11 +120,11 @@ module _ (f : Name → Name) where
   catch_same : (p : Place) (u : Name) (g : Forest) (path' : List Node) (x : Node) (v : Name) (w : Forest) → SameNode f x v w → catch_names (re p u g path') (with_text x v w) ≡ ren (catch_names p x)
   catch_same p u g path' x v w t = go (is kind.BindingIdentifier x) refl
     where
-      row : Row
+      row : BinderRow
       row = record { flags = union symbol.FunctionScopedVariable.bits symbol.CatchVariable.bits; excluded = 0; how = caught; route = here p.chain }
 
-      go : (b : Bool) → is kind.BindingIdentifier x ≡ b → (if b then declare (with_text p.node u g) (record { flags = union symbol.FunctionScopedVariable.bits symbol.CatchVariable.bits; excluded = 0; how = caught; route = here p.chain }) false (with_text x v w) ∷ [] else declare_here (re p u g path') (union symbol.BlockScopedVariable.bits symbol.CatchVariable.bits) symbol.BlockScopedVariableExcludes.bits (bound_names (with_text x v w))) ≡ ren (if b then declare p.node (record { flags = union symbol.FunctionScopedVariable.bits symbol.CatchVariable.bits; excluded = 0; how = caught; route = here p.chain }) false x ∷ [] else declare_here p (union symbol.BlockScopedVariable.bits symbol.CatchVariable.bits) symbol.BlockScopedVariableExcludes.bits (bound_names x))
-      go true e = ap (λ z. declare (with_text p.node u g) (record { flags = union symbol.FunctionScopedVariable.bits symbol.CatchVariable.bits; excluded = 0; how = caught; route = here p.chain }) false (with_text x z w) ∷ []) (t.text.named (subst (λ j. is_name j ≡ true) (sym (kind_is x.kind kind.BindingIdentifier e)) refl))
+      go : (b : Bool) → is kind.BindingIdentifier x ≡ b → (if b then declaration_at (with_text p.node u g) (record { flags = union symbol.FunctionScopedVariable.bits symbol.CatchVariable.bits; excluded = 0; how = caught; route = here p.chain }) false (with_text x v w) ∷ [] else declare_here (re p u g path') (union symbol.BlockScopedVariable.bits symbol.CatchVariable.bits) symbol.BlockScopedVariableExcludes.bits (bound_names (with_text x v w))) ≡ ren (if b then declaration_at p.node (record { flags = union symbol.FunctionScopedVariable.bits symbol.CatchVariable.bits; excluded = 0; how = caught; route = here p.chain }) false x ∷ [] else declare_here p (union symbol.BlockScopedVariable.bits symbol.CatchVariable.bits) symbol.BlockScopedVariableExcludes.bits (bound_names x))
+      go true e = ap (λ z. declaration_at (with_text p.node u g) (record { flags = union symbol.FunctionScopedVariable.bits symbol.CatchVariable.bits; excluded = 0; how = caught; route = here p.chain }) false (with_text x z w) ∷ []) (t.text.named (subst (λ j. is_name j ≡ true) (sym (kind_is x.kind kind.BindingIdentifier e)) refl))
       go false e = here_changed p u g path' (union symbol.BlockScopedVariable.bits symbol.CatchVariable.bits) symbol.BlockScopedVariableExcludes.bits (bound_names x) (bound_names (with_text x v w)) (bound_changed f x v w t)
 
   pub catches_same : (p : Place) (u : Name) (g : Forest) (path' xs ys : List Node) → AlikePath f xs ys → flat_map (catch_names (re p u g path')) ys ≡ ren (flat_map (catch_names p) xs)

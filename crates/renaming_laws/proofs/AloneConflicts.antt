@@ -10,7 +10,7 @@ use Rattle.semantic_kinds.specs.declared.role.Role.TheVariants as role
 use Rattle.semantic_syntax.specs.Tables.{Name, Symbol}
 use Rattle.semantic_tree.specs.Faults.{first_fault}
 use Rattle.semantic_tree.specs.Forest.{Forest, nothing, tree}
-use Rattle.semantic_tree.specs.Renamed.{swap, is_named, setting_below, renamed_text, renamed as renamed_forest, renamed_tree, swapped_tree}
+use Rattle.semantic_tree.specs.Renamed.{swap, is_program_name, setting_below, renamed_text, renamed as renamed_forest, renamed_tree, swapped_tree}
 use Rattle.semantic_tree.specs.Tree.{Tree, IsNumbered}
 use Rattle.semantic_tree.specs.declared.node.Node.{Node}
 use Rattle.semantic_tree.specs.declared.swap.Setting.{Setting}
@@ -33,7 +33,7 @@ use Rattle.program_laws.specs.SameAnalysis.{conflicts_of, HaveSameAnalysis}
 use Rattle.program_laws.proofs.TableMarks.{same_unmarked}
 use Rattle.rename_model.specs.Alone.{BelongsTo, IsUnused}
 use Rattle.rename_model.specs.Refusal.{first_fixed, rename}
-use Rattle.rename_model.specs.Renamed.{bears_name, renamed}
+use Rattle.rename_model.specs.Renamed.{bears_name, program_renamed}
 use Rattle.rename_model.specs.WithName.{sheds, with_name_alone, with_name}
 use Rattle.rename_model.proofs.AloneNames.{stands_alone}
 use Rattle.rename_model.proofs.Completeness.{good}
@@ -46,7 +46,7 @@ use Rattle.renaming_laws.proofs.KeptConflicts.{shed_first}
 -- ---- the tree
 
 text_swapped : (chosen : ℕ → Bool) (a b : Name) (setting : Setting) (r : Role) (k : AstType) (text : Name) (id : ℕ) → Bears chosen a b setting r k text id → cond (chosen id) b text ≡ renamed_text (swap a b) setting r k text
-text_swapped chosen a b setting r k text id w = go (chosen id) (is_named setting r k) (bytes_eq text a) (bytes_eq text b) w.named w.has_old w.only w.not_new
+text_swapped chosen a b setting r k text id w = go (chosen id) (is_program_name setting r k) (bytes_eq text a) (bytes_eq text b) w.named w.has_old w.only w.not_new
   where
     differ : false ≡ true → ⊥
     differ f = absurd cc
@@ -80,7 +80,7 @@ module _ (p : Tree) (faultless : first_fault p ≡ None) (numbered : IsNumbered 
   chosen = bears_name (analysis_of p) s
 
   abbrev q : Tree
-  q = renamed p (analysis_of p) s new
+  q = program_renamed p (analysis_of p) s new
 
   abbrev unmarked : Tree
   unmarked = unmarked_tree (sheds chosen) mark.Shorthand p

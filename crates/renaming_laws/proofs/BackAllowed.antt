@@ -35,7 +35,7 @@ use Rattle.program_laws.proofs.StepMarks.{remarked_steps, steps_same}
 use Rattle.program_laws.proofs.TableMarks.{same_unmarked}
 use Rattle.program_laws.proofs.Walked.{steps_within}
 use Rattle.rename_model.specs.Refusal.{is_bad_name, fixes_name, first_fixed, rename}
-use Rattle.rename_model.specs.Renamed.{bears_name, renamed}
+use Rattle.rename_model.specs.Renamed.{bears_name, program_renamed}
 use Rattle.rename_model.specs.Same.{Same}
 use Rattle.rename_model.specs.WithName.{sheds, with_name}
 use Rattle.rename_model.proofs.Refusals.{ends_renamed, free_means_none, none_means_free, renames}
@@ -142,7 +142,7 @@ module _ (p : Tree) (faultless : first_fault p ≡ None) (numbered : IsNumbered 
   chosen = bears_name (analysis_of p) s
 
   abbrev q : Tree
-  q = renamed p (analysis_of p) s new
+  q = program_renamed p (analysis_of p) s new
 
   abbrev shed : Node → Marks
   shed = without_where (sheds chosen) mark.Shorthand

@@ -10,7 +10,7 @@ use Rattle.semantic_tree.specs.Tree.{Tree}
 use Rattle.semantic_tree.specs.declared.node.Node.{Node}
 use Rattle.semantic_model.specs.Binder.{declare_here, declared_by, declared_on_entering, declared_on_opening, ids, marked_ambient, namespace_row}
 use Rattle.semantic_model.specs.Declaration.{How, plain, hoisted, moved, caught, Declaration}
-use Rattle.semantic_model.specs.Event.{Event, declares, takes_over, ends_header, declared, declared_at, declarations, written_declarations, is_barred, staying, placed_by, is_catch_body, taken_over, declares_all, events_of, events}
+use Rattle.semantic_model.specs.Event.{Event, declares, takes_over, ends_header, declared, declared_at, declarations, written_declarations, is_barred, staying_declaration, placed_by, is_catch_body, taken_over, declares_all, events_of, events}
 use Rattle.semantic_model.specs.Fold.{Made, State, start}
 use Rattle.semantic_model.specs.Hoist.{act, run}
 use Rattle.semantic_model.specs.Namespace.{InstanceState, non_instantiated, const_enum_only, instantiated, instance_state, nodes_around}
@@ -103,7 +103,7 @@ placed_pair hoisted ds d = refl
 placed_pair caught ds d = refl
 placed_pair moved ds d = go (is_barred ds d (outside d.route.passed))
   where
-    go : (b : Bool) → pair (if b then staying d else d) ≡ pair d
+    go : (b : Bool) → pair (if b then staying_declaration d else d) ≡ pair d
     go true = refl
     go false = refl
 

@@ -27,7 +27,7 @@ use Rattle.program_laws.specs.ReadMarks.{without_mark, without_where}
 use Rattle.program_laws.specs.Remarked.{remarked}
 use Rattle.program_laws.proofs.TreeNodes.{nodes_below, ids_between}
 use Rattle.rename_model.specs.Refusal.{first_fixed, rename}
-use Rattle.rename_model.specs.Renamed.{bears_name, renamed}
+use Rattle.rename_model.specs.Renamed.{bears_name, program_renamed}
 use Rattle.rename_model.specs.Same.{Same}
 use Rattle.rename_model.specs.WithName.{sheds, with_name}
 use Rattle.rename_model.proofs.AloneNames.{is_of_symbol}
@@ -90,7 +90,7 @@ module _ (p : Tree) (faultless : first_fault p ≡ None) (numbered : IsNumbered 
   chosen = bears_name (analysis_of p) s
 
   abbrev q : Tree
-  q = renamed p (analysis_of p) s new
+  q = program_renamed p (analysis_of p) s new
 
   abbrev again : ℕ → Bool
   again = bears_name (analysis_of q) s
@@ -118,7 +118,7 @@ module _ (p : Tree) (faultless : first_fault p ≡ None) (numbered : IsNumbered 
           have_text place k after (λ here z a. h here z (inr (among_right (here, z) (placed_below at k2 below) (placed_below place k after) a))),
         )
 
-    back : renamed q (analysis_of q) s y.name ≡ written_out p s
+    back : program_renamed q (analysis_of q) s y.name ≡ written_out p s
     back = λ i. record p {
       root = record p.root {
         marks = sym (root_marks chosen p.root is_program) i;
@@ -126,8 +126,8 @@ module _ (p : Tree) (faultless : first_fault p ≡ None) (numbered : IsNumbered 
       };
     }
 
-  pub renamed_back : (r : Tree) → rename p s new ≡ Ok r → renamed r (analysis_of r) s y.name ≡ written_out p s
+  pub renamed_back : (r : Tree) → rename p s new ≡ Ok r → program_renamed r (analysis_of r) s y.name ≡ written_out p s
   renamed_back r e =
       let (bad, none, same, is) = ends_renamed p s new r e in
       let same' : Same p q = subst (Same p) is same in
-      ap (λ t. renamed t (analysis_of t) s y.name) is ∙ back (none_means_free p s none) same'
+      ap (λ t. program_renamed t (analysis_of t) s y.name) is ∙ back (none_means_free p s none) same'

@@ -10,7 +10,7 @@ use Rattle.semantic_syntax.specs.Tables.{Name}
 use Rattle.semantic_syntax.specs.declared.symbol_flags.TheConstants.SymbolFlags as symbol
 use Rattle.semantic_tree.specs.Views.{is, has, children_of}
 use Rattle.semantic_tree.specs.declared.node.Node.{Node}
-use Rattle.semantic_model.specs.Binder.{Row, declare, declare_here, ids, is_statement, marked_ambient, function_row, own_function_row, class_row, variable_row, variables_under, is_pure_declarator, parameter_excluded, parameters_under, catch_names, import_flags, enums, member_names, named_member, member_named, namespace_row, type_parameter_route, type_parameter_row, declared_by, declared_inside}
+use Rattle.semantic_model.specs.Binder.{BinderRow, declaration_at, declare_here, ids, is_statement, marked_ambient, function_row, own_function_row, class_row, variable_row, variables_under, is_pure_declarator, parameter_excluded, parameters_under, catch_names, import_flags, enums, member_names, named_member, member_named, namespace_row, type_parameter_route, type_parameter_row, declared_by, declared_inside}
 use Rattle.semantic_model.specs.Declaration.{Declaration, plain, caught, here}
 use Rattle.semantic_model.specs.Entries.{Among}
 use Rattle.semantic_model.specs.Names.{bound_names, bound_below, names_at}
@@ -33,8 +33,8 @@ module _ (chosen : ℕ → Bool) (new : Name) where
   abbrev pub TellsChosen : Declaration → Type 0
   TellsChosen d = given new d.naming.name ≡ cond (chosen d.naming.identifier) new (unsigned d.naming.name)
 
-  row_good : (node : Node) (row : Row) (is_pure : Bool) (xs : List Node) → ((x : Node) → Among x xs → Good chosen new x) → (d : Declaration) → Among d (map (declare node row is_pure) xs) → TellsChosen d
-  row_good node row is_pure xs h d a = let (x, b, e) = among_map (declare node row is_pure) xs d a in subst TellsChosen e (h x b)
+  row_good : (node : Node) (row : BinderRow) (is_pure : Bool) (xs : List Node) → ((x : Node) → Among x xs → Good chosen new x) → (d : Declaration) → Among d (map (declaration_at node row is_pure) xs) → TellsChosen d
+  row_good node row is_pure xs h d a = let (x, b, e) = among_map (declaration_at node row is_pure) xs d a in subst TellsChosen e (h x b)
 
   -- what is known of a place
   pub record KnownPlace (p : Place) : Type 0 where
@@ -52,13 +52,13 @@ module _ (chosen : ℕ → Bool) (new : Name) where
     in_role : (r : Role) (x : Node) → Among x (names_at r p.node) → Good chosen new x
     in_role r x a = let (child, b, c) = among_flat bound_names (children_of r p.node.children) x a in of_child r child x b c
 
-    abbrev row_here : ℕ → ℕ → Row
+    abbrev row_here : ℕ → ℕ → BinderRow
     row_here flags excluded = record { flags = flags; excluded = excluded; how = plain; route = here p.chain }
 
-    own_row : (row : Row) (is_pure : Bool) (d : Declaration) → Among d (map (declare p.node row is_pure) (bound_names p.node)) → TellsChosen d
+    own_row : (row : BinderRow) (is_pure : Bool) (d : Declaration) → Among d (map (declaration_at p.node row is_pure) (bound_names p.node)) → TellsChosen d
     own_row row is_pure d a = row_good p.node row is_pure (bound_names p.node) own d a
 
-    role_row : (r : Role) (row : Row) (is_pure : Bool) (d : Declaration) → Among d (map (declare p.node row is_pure) (names_at r p.node)) → TellsChosen d
+    role_row : (r : Role) (row : BinderRow) (is_pure : Bool) (d : Declaration) → Among d (map (declaration_at p.node row is_pure) (names_at r p.node)) → TellsChosen d
     role_row r row is_pure d a = row_good p.node row is_pure (names_at r p.node) (in_role r) d a
 
     role_here : (r : Role) (flags excluded : ℕ) (d : Declaration) → Among d (declare_here p flags excluded (names_at r p.node)) → TellsChosen d
@@ -78,7 +78,7 @@ module _ (chosen : ℕ → Bool) (new : Name) where
         itself : is kind.BindingIdentifier pattern ≡ true → Among pattern (bound_names pattern)
         itself e = subst (λ t. Among pattern (cond t (pattern ∷ []) (bound_below pattern.kind pattern.children))) (sym e) (inl refl)
 
-        go : (t : Bool) → is kind.BindingIdentifier pattern ≡ t → Among d (if t then declare p.node (record { flags = union symbol.FunctionScopedVariable.bits symbol.CatchVariable.bits; excluded = 0; how = caught; route = here p.chain }) false pattern ∷ [] else declare_here p (union symbol.BlockScopedVariable.bits symbol.CatchVariable.bits) symbol.BlockScopedVariableExcludes.bits (bound_names pattern)) → TellsChosen d
+        go : (t : Bool) → is kind.BindingIdentifier pattern ≡ t → Among d (if t then declaration_at p.node (record { flags = union symbol.FunctionScopedVariable.bits symbol.CatchVariable.bits; excluded = 0; how = caught; route = here p.chain }) false pattern ∷ [] else declare_here p (union symbol.BlockScopedVariable.bits symbol.CatchVariable.bits) symbol.BlockScopedVariableExcludes.bits (bound_names pattern)) → TellsChosen d
         go true e (inl q) = subst TellsChosen q (of_child role.Pattern pattern pattern b (itself e))
         go true e (inr q) = absurd q
         go false e q = row_good p.node (row_here (union symbol.BlockScopedVariable.bits symbol.CatchVariable.bits) symbol.BlockScopedVariableExcludes.bits) false (bound_names pattern) (λ x c. of_child role.Pattern pattern x b c) d q
@@ -104,13 +104,13 @@ module _ (chosen : ℕ → Bool) (new : Name) where
 
     pub declared_good : (k : AstType) → p.node.kind ≡ k → (d : Declaration) → Among d (declared_by k p) → TellsChosen d
     declared_good kind.VariableDeclarator e d a = variables_good p.path d a
-    declared_good kind.Function e d a = role_row role.Id (function_row p) (has mark.Pure p.node) d (among_if (is_statement p.node) (map (declare p.node (function_row p) (has mark.Pure p.node)) (ids p.node)) d a)
-    declared_good kind.Class e d a = role_row role.Id (class_row p p.chain) false d (among_if (is_statement p.node) (map (declare p.node (class_row p p.chain) false) (ids p.node)) d a)
+    declared_good kind.Function e d a = role_row role.Id (function_row p) (has mark.Pure p.node) d (among_if (is_statement p.node) (map (declaration_at p.node (function_row p) (has mark.Pure p.node)) (ids p.node)) d a)
+    declared_good kind.Class e d a = role_row role.Id (class_row p p.chain) false d (among_if (is_statement p.node) (map (declaration_at p.node (class_row p p.chain) false) (ids p.node)) d a)
     declared_good kind.FormalParameter e d a = parameters_good p.path d a
     declared_good kind.FormalParameterRest e d a = parameters_good p.path d a
     declared_good kind.BindingRestElement e d a =
-        let row : Row = row_here symbol.FunctionScopedVariable.bits (union symbol.FunctionScopedVariableExcludes.bits symbol.FunctionScopedVariable.bits) in
-        own_row row false d (among_if _ (map (declare p.node row false) (bound_names p.node)) d a)
+        let row : BinderRow = row_here symbol.FunctionScopedVariable.bits (union symbol.FunctionScopedVariableExcludes.bits symbol.FunctionScopedVariable.bits) in
+        own_row row false d (among_if _ (map (declaration_at p.node row false) (bound_names p.node)) d a)
     declared_good kind.CatchParameter e d a = let (x, b, c) = among_flat (catch_names p) (children_of role.Pattern p.node.children) d a in catch_good x d b c
     declared_good kind.ImportSpecifier e d a = role_here role.Local (import_flags p) symbol.ImportBindingExcludes.bits d a
     declared_good kind.ImportDefaultSpecifier e d a = role_here role.Local (import_flags p) symbol.ImportBindingExcludes.bits d a
@@ -125,7 +125,7 @@ module _ (chosen : ℕ → Bool) (new : Name) where
     declared_good _ e d a = absurd a
 
     pub inside_good : (k : AstType) (at : OpenScope) (d : Declaration) → Among d (declared_inside k p at) → TellsChosen d
-    inside_good kind.Function at d a = role_row role.Id (own_function_row p at) (has mark.Pure p.node) d (among_unless (is_statement p.node) (map (declare p.node (own_function_row p at) (has mark.Pure p.node)) (ids p.node)) d a)
-    inside_good kind.Class at d a = role_row role.Id (class_row p (at ∷ [])) false d (among_unless (is_statement p.node) (map (declare p.node (class_row p (at ∷ [])) false) (ids p.node)) d a)
+    inside_good kind.Function at d a = role_row role.Id (own_function_row p at) (has mark.Pure p.node) d (among_unless (is_statement p.node) (map (declaration_at p.node (own_function_row p at) (has mark.Pure p.node)) (ids p.node)) d a)
+    inside_good kind.Class at d a = role_row role.Id (class_row p (at ∷ [])) false d (among_unless (is_statement p.node) (map (declaration_at p.node (class_row p (at ∷ [])) false) (ids p.node)) d a)
     inside_good kind.TSMappedType at d a = role_row role.Key (type_parameter_row (here (at ∷ []))) false d a
     inside_good _ at d a = absurd a

@@ -17,7 +17,7 @@ use Rattle.semantic_syntax.specs.Tables.{Name, Symbol}
 use Rattle.semantic_syntax.specs.declared.references.Reference.{Reference}
 use Rattle.semantic_tree.specs.Faults.{first_fault}
 use Rattle.semantic_tree.specs.Forest.{Forest, nothing, tree}
-use Rattle.semantic_tree.specs.Renamed.{is_named, setting_below, renamed_text, renamed as renamed_forest, renamed_tree}
+use Rattle.semantic_tree.specs.Renamed.{is_program_name, setting_below, renamed_text, renamed as renamed_forest, renamed_tree}
 use Rattle.semantic_tree.specs.Tree.{Tree, IsNumbered}
 use Rattle.semantic_tree.specs.Views.{children_of}
 use Rattle.semantic_tree.specs.declared.node.Node.{Node}
@@ -52,7 +52,7 @@ use Rattle.program_laws.proofs.TableMarks.{same_unmarked}
 use Rattle.program_laws.proofs.TreeNodes.{nodes_from}
 use Rattle.program_laws.proofs.Walked.{node_at, steps_within}
 use Rattle.rename_model.specs.Refusal.{first_fixed, rename}
-use Rattle.rename_model.specs.Renamed.{bears_name, renamed}
+use Rattle.rename_model.specs.Renamed.{bears_name, program_renamed}
 use Rattle.rename_model.specs.Same.{Same}
 use Rattle.rename_model.specs.WithName.{sheds, with_name_alone, with_name, is_identifier, AreIdentifiers}
 use Rattle.rename_model.proofs.AloneNames.{are_identifiers}
@@ -114,7 +114,7 @@ module _ (chosen : ℕ → Bool) (new : Name) where
   still_identifiers g (tree r k span text marks below id after) h = (h.0, still_identifiers g below h.1, still_identifiers g after h.2)
 
   text_same : (setting : Setting) (r : Role) (k : AstType) (text : Name) (id : ℕ) → (chosen id ≡ true → is_identifier k ≡ true) → renamed_text nameless setting r k (cond (chosen id) new text) ≡ renamed_text nameless setting r k text
-  text_same setting r k text id h = go (chosen id) (is_named setting r k) (λ e. identifier_cases (λ j. is_named setting r j ≡ true) refl refl k (h e))
+  text_same setting r k text id h = go (chosen id) (is_program_name setting r k) (λ e. identifier_cases (λ j. is_program_name setting r j ≡ true) refl refl k (h e))
     where
       go : (c n : Bool) → (c ≡ true → n ≡ true) → (if n then nameless (cond c new text) else cond c new text) ≡ (if n then nameless text else text)
       go c true i = refl
@@ -133,7 +133,7 @@ module _ (p : Tree) (faultless : first_fault p ≡ None) (numbered : IsNumbered 
   chosen_here = bears_name (analysis_of p) s
 
   abbrev q : Tree
-  q = renamed p (analysis_of p) s new
+  q = program_renamed p (analysis_of p) s new
 
   abbrev shed : Node → Marks
   shed = without_where (sheds chosen_here) mark.Shorthand

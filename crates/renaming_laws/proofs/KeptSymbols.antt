@@ -19,7 +19,7 @@ use Rattle.semantic_model.proofs.form.Shape.{has_form}
 use Rattle.program_laws.specs.SymbolNames.{IsNamed}
 use Rattle.program_laws.proofs.TiedNames.{declarations_have_names}
 use Rattle.rename_model.specs.Refusal.{first_fixed, rename}
-use Rattle.rename_model.specs.Renamed.{bears_name, renamed}
+use Rattle.rename_model.specs.Renamed.{bears_name, program_renamed}
 use Rattle.rename_model.specs.Same.{Same}
 use Rattle.rename_model.proofs.Completeness.{no_fault_renamed}
 use Rattle.rename_model.proofs.NamedNodes.{some_is}
@@ -58,7 +58,7 @@ named_once p r y x e w = ap (λ (z : Symbol). z.name) (some_is y w.symbol (sym e
 
 module _ (p : Tree) (faultless : first_fault p ≡ None) (numbered : IsNumbered p.root) (s : ℕ) (y : Symbol) (there : slice_get (tables_of p).symbols s ≡ Some y) (new : Name) where
   abbrev q : Tree
-  q = renamed p (analysis_of p) s new
+  q = program_renamed p (analysis_of p) s new
 
   module _ (free : first_fixed (exported_names (steps p)) (bears_name (analysis_of p) s) (steps p) ≡ None) (faultless' : first_fault q ≡ None) (same : Same p q) (states : namespace_states (steps q) ≡ namespace_states (steps p)) (share : ShareFlags (made_in p)) (others : ShareFlags (made_in q)) where
     abbrev now : Made → Name

@@ -8,7 +8,7 @@ use Rattle.semantic_kinds.specs.declared.kind.AstType.TheVariants as kind
 use Rattle.semantic_syntax.specs.Tables.{Name}
 use Rattle.semantic_model.proofs.form.Clauses.{kind_is}
 use Rattle.semantic_diagnostics.specs.declared.diagnostic.Diagnostic.{Diagnostic}
-use Rattle.check_model.specs.Names.{reserved_words, is_reserved, check_identifier, check_binding_identifier, check_identifier_reference, is_eval_or_arguments}
+use Rattle.check_model.specs.Names.{strict_reserved_words, is_strict_reserved, check_identifier, check_binding_identifier, check_identifier_reference, is_eval_or_arguments}
 use Rattle.check_model.specs.Rows.{rows_by, rows_of}
 use Rattle.check_model.specs.Search.{rows_if}
 use Rattle.check_model.specs.Sight.{Sight}
@@ -24,7 +24,7 @@ record IsQuiet (name : Name) : Type 0 where
   no_arguments : bytes_eq name (codes "arguments") ≡ false
   no_await : bytes_eq name (codes "await") ≡ false
   no_eval : bytes_eq name (codes "eval") ≡ false
-  not_reserved : is_reserved name ≡ false
+  not_reserved : is_strict_reserved name ≡ false
   no_let : bytes_eq name (codes "let") ≡ false
 
 -- of three in front, and a list behind
@@ -37,7 +37,7 @@ three name a b c xs h =
 
 is_quiet : (name : Name) → is_asked_for name ≡ false → IsQuiet name
 is_quiet name h =
-    let (arguments, await, eval, reserved) = three name (codes "arguments") (codes "await") (codes "eval") reserved_words h in
+    let (arguments, await, eval, reserved) = three name (codes "arguments") (codes "await") (codes "eval") strict_reserved_words h in
     let (first, second, third, rest) = three name (codes "implements") (codes "interface") (codes "let") (codes "package" ∷ codes "private" ∷ codes "protected" ∷ codes "public" ∷ codes "static" ∷ codes "yield" ∷ []) reserved in
     record { no_arguments = arguments; no_await = await; no_eval = eval; not_reserved = reserved; no_let = third }
 

@@ -12,7 +12,7 @@ use Rattle.semantic_kinds.specs.declared.role.Role.{Role}
 use Rattle.semantic_kinds.specs.declared.role.Role.TheVariants as role
 use Rattle.semantic_syntax.specs.Tables.{Name}
 use Rattle.semantic_tree.specs.Forest.{Forest, nothing, tree}
-use Rattle.semantic_tree.specs.Renamed.{is_named, setting_below, renamed}
+use Rattle.semantic_tree.specs.Renamed.{is_program_name, setting_below, renamed}
 use Rattle.semantic_tree.specs.Views.{is, children_of}
 use Rattle.semantic_tree.specs.declared.node.Node.{Node}
 use Rattle.semantic_tree.specs.declared.swap.Setting.{Setting}
@@ -44,7 +44,7 @@ module _ (chosen : ℕ → Bool) where
   sign k id = cond (is_identifier k && chosen id) 1 0
 
   abbrev signed_text : Setting → Role → AstType → ℕ → Name → Name
-  signed_text setting r k id text = if is_named setting r k then sign k id ∷ text else text
+  signed_text setting r k id text = if is_program_name setting r k then sign k id ∷ text else text
 
   -- the forest in which each name has its sign
   abbrev pub signed : Setting → Forest → Forest
@@ -55,7 +55,7 @@ module _ (chosen : ℕ → Bool) where
   pub signs_taken : (setting : Setting) (f : Forest) → renamed unsigned setting (signed setting f) ≡ f
   signs_taken setting nothing = refl
   signs_taken setting (tree r k span text marks below id after) =
-      λ i. tree r k span (go (is_named setting r k) i) marks (signs_taken (setting_below setting r k) below i) id (signs_taken setting after i)
+      λ i. tree r k span (go (is_program_name setting r k) i) marks (signs_taken (setting_below setting r k) below i) id (signs_taken setting after i)
     where
       go : (b : Bool) → (if b then unsigned (if b then sign k id ∷ text else text) else (if b then sign k id ∷ text else text)) ≡ text
       go true = refl
@@ -64,7 +64,7 @@ module _ (chosen : ℕ → Bool) where
   pub names_given : (new : Name) (setting : Setting) (f : Forest) → AreIdentifiers chosen f → renamed (given new) setting (signed setting f) ≡ with_name_alone chosen new f
   names_given new setting nothing h = refl
   names_given new setting (tree r k span text marks below id after) h =
-      λ i. tree r k span (go (is_named setting r k) (is_identifier k) (chosen id) h.0 (λ e. identifier_cases (λ j. is_named setting r j ≡ true) refl refl k e) i) marks
+      λ i. tree r k span (go (is_program_name setting r k) (is_identifier k) (chosen id) h.0 (λ e. identifier_cases (λ j. is_program_name setting r j ≡ true) refl refl k e) i) marks
       (names_given new (setting_below setting r k) below h.1 i) id (names_given new setting after h.2 i)
     where
       go : (n j c : Bool) → (c ≡ true → j ≡ true) → (j ≡ true → n ≡ true) → (if n then given new (if n then cond (j && c) 1 0 ∷ text else text) else (if n then cond (j && c) 1 0 ∷ text else text)) ≡ cond c new text

@@ -9,7 +9,7 @@ use Rattle.semantic_syntax.specs.Tables.{Name}
 use Rattle.semantic_tree.specs.Views.{is}
 use Rattle.semantic_model.specs.Binder.{declared_by, declared_on_entering, declared_on_opening, namespace_row}
 use Rattle.semantic_model.specs.Declaration.{How, plain, hoisted, moved, caught, Declaration}
-use Rattle.semantic_model.specs.Event.{Event, declares, takes_over, ends_header, written_declarations, is_barred, staying, placed_by, placed, taken_over, declares_all, events_of, events}
+use Rattle.semantic_model.specs.Event.{Event, declares, takes_over, ends_header, written_declarations, is_barred, staying_declaration, placed_by, placed, taken_over, declares_all, events_of, events}
 use Rattle.semantic_model.specs.Namespace.{InstanceState, instance_state, nodes_around}
 use Rattle.semantic_model.specs.NamespaceStates.{state_at, namespace_states}
 use Rattle.semantic_model.specs.Naming.{Naming}
@@ -54,7 +54,7 @@ unnamed_placed hoisted ds d = refl
 unnamed_placed caught ds d = refl
 unnamed_placed moved ds d = go (is_barred ds d (outside d.route.passed))
   where
-    go : (b : Bool) → unnamed (if b then staying d else d).naming ≡ unnamed d.naming
+    go : (b : Bool) → unnamed (if b then staying_declaration d else d).naming ≡ unnamed d.naming
     go true = refl
     go false = refl
 

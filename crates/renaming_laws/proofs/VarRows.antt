@@ -7,9 +7,9 @@ use Rattle.semantic_syntax.specs.declared.symbol_flags.TheConstants.SymbolFlags 
 use Rattle.semantic_tree.specs.Tree.{Tree}
 use Rattle.semantic_tree.specs.Views.{is_with_text}
 use Rattle.semantic_tree.specs.declared.node.Node.{Node}
-use Rattle.semantic_model.specs.Binder.{Row, declare, declared_by, declared_on_entering, declared_on_opening, is_pure_declarator, variable_row, variables_under}
+use Rattle.semantic_model.specs.Binder.{BinderRow, declaration_at, declared_by, declared_on_entering, declared_on_opening, is_pure_declarator, variable_row, variables_under}
 use Rattle.semantic_model.specs.Declaration.{How, plain, hoisted, moved, caught, Declaration, Route}
-use Rattle.semantic_model.specs.Event.{Event, declares, takes_over, ends_header, is_barred, staying, placed_by, is_catch_body, taken_over, declares_all, events_of, events, written_declarations}
+use Rattle.semantic_model.specs.Event.{Event, declares, takes_over, ends_header, is_barred, staying_declaration, placed_by, is_catch_body, taken_over, declares_all, events_of, events, written_declarations}
 use Rattle.semantic_model.specs.Names.{bound_names}
 use Rattle.semantic_model.specs.Place.{Place, OpenScope, innermost, outside}
 use Rattle.semantic_model.specs.Step.{Step, entering, opening, header_ending, closing, leaving, steps}
@@ -26,7 +26,7 @@ AllVarRows ds = EachDeclared IsVarRow ds
 abbrev IsOther : How → Route → Type 0
 IsOther how route = how ≡ hoisted → ⊥
 
-other_row : (node : Node) (row : Row) (is_pure : Bool) (name : Node) → IsOther row.how row.route → IsVarRow (declare node row is_pure name)
+other_row : (node : Node) (row : BinderRow) (is_pure : Bool) (name : Node) → IsOther row.how row.route → IsVarRow (declaration_at node row is_pure name)
 other_row node row is_pure name h e = absurd (h e)
 
 not_plain : plain ≡ hoisted → ⊥
@@ -49,7 +49,7 @@ others k p h = record {
 
 -- ---- rows of variables
 
-var_rows : (node : Node) (row : Row) (is_pure : Bool) (names : List Node) → (row.how ≡ hoisted → row.excluded ≡ symbol.FunctionScopedVariableExcludes.bits) → AllVarRows (map (declare node row is_pure) names)
+var_rows : (node : Node) (row : BinderRow) (is_pure : Bool) (names : List Node) → (row.how ≡ hoisted → row.excluded ≡ symbol.FunctionScopedVariableExcludes.bits) → AllVarRows (map (declaration_at node row is_pure) names)
 var_rows node row is_pure [] h = tt
 var_rows node row is_pure (x ∷ xs) h = (h, var_rows node row is_pure xs h)
 
@@ -88,7 +88,7 @@ placed_row hoisted ds d h = h
 placed_row caught ds d h = h
 placed_row moved ds d h = go (is_barred ds d (outside d.route.passed))
   where
-    go : (b : Bool) → IsVarRow (if b then staying d else d)
+    go : (b : Bool) → IsVarRow (if b then staying_declaration d else d)
     go true = λ e. absurd (not_plain e)
     go false = h
 

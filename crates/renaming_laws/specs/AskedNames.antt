@@ -5,11 +5,11 @@ use Rattle.semantic_kinds.specs.Classes.{holds_kind}
 use Rattle.semantic_kinds.specs.declared.kind.AstType.{AstType}
 use Rattle.semantic_kinds.specs.declared.kind.AstType.TheVariants as kind
 use Rattle.semantic_syntax.specs.Tables.{Name}
-use Rattle.check_model.specs.Names.{reserved_words}
+use Rattle.check_model.specs.Names.{strict_reserved_words}
 
 -- `let` and what else strict code reserves, the two names that it protects, and `await`
 abbrev pub asked_names : List Name
-asked_names = codes "arguments" ∷ codes "await" ∷ codes "eval" ∷ reserved_words
+asked_names = codes "arguments" ∷ codes "await" ∷ codes "eval" ∷ strict_reserved_words
 
 abbrev pub is_asked_for : Name → Bool
 is_asked_for name = list_any (bytes_eq name) asked_names

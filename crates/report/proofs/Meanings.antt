@@ -8,7 +8,7 @@ use Rattle.report_ends.specs.declared.error.ReportError.TheVariants as error
 use Rattle.program_ends.specs.Calls.{SourceCall, SinkCall, Unread, Untouched}
 use Rattle.program_ends.specs.Completeness.{IsNotRefused, IsDoneOrMemory}
 use Rattle.program_ends.specs.Ending.{TellsEnd}
-use Rattle.program_ends.specs.Lines.{tree_line, line_of}
+use Rattle.program_ends.specs.Lines.{tree_line, line_on_error}
 use Rattle.program_ends.specs.Reads.{Stands, RefusedFor}
 use Rattle.program_ends.specs.Meaning.{Finds, is_answer}
 use Rattle.program_ends.specs.Telling.{stop_of}
@@ -16,7 +16,7 @@ use Rattle.program_ends.specs.declared.stops.Stop.TheVariants as stop
 use Rattle.program_ends.proofs.Endings.{ends_usage, ends_answered, ends_told, answer_ends, memory_ends}
 use Rattle.program_ends.proofs.Meanings.{clear_reading, clear_making}
 use Rattle.report_answers.specs.Codes.{end_of, status_for}
-use Rattle.report.specs.Meaning.{IsAbout, Answers, GivesAnswer, Ends, IsAsked, IsRead, IsAskedAbout, AnswersTo, RefusesNone, MeansBy, IsClearBy, IsClearFor}
+use Rattle.report.specs.Meaning.{IsAbout, Answers, GivesAnswer, Ends, IsAsked, AsksForReport, IsAskedAbout, AnswersTo, RefusesNone, MeansBy, IsClearBy, IsClearFor}
 use Rattle.report.specs.Telling.{usage_line}
 use Rattle.report_answers.specs.declared.request.Request.{Request}
 use Rattle.report_answers.specs.declared.status.ReportStatus.{ReportStatus}
@@ -46,20 +46,20 @@ is_answered request source out result whole = ap is_answer whole.answers.ends �
 module _ (source : SourceCall) (out errs : SinkCall) where
   -- the words are refused
   pub means_refused : (asked : Option Request) (result : ReportStatus) → asked ≡ None → Unread source → Untouched out → TellsEnd errs usage_line stop.Usage (end_of result) → MeansBy asked source out errs result
-  means_refused None result none unread untouched tells = ends_usage (IsAsked None) (IsRead None) usage_line (IsAskedAbout None) RefusedFor tree_line (AnswersTo None) RefusesNone source out errs (end_of result) (λ asked. asked) unread untouched tells
+  means_refused None result none unread untouched tells = ends_usage (IsAsked None) (AsksForReport None) usage_line (IsAskedAbout None) RefusedFor tree_line (AnswersTo None) RefusesNone source out errs (end_of result) (λ asked. asked) unread untouched tells
   means_refused (Some request) result none unread untouched tells = absurd (cc)
 
   -- the answer is written
   pub means_answered : (asked : Option Request) (request : Request) (result : ReportStatus) → asked ≡ Some request → Ends request source out (Ok result) → Untouched errs → MeansBy asked source out errs result
   means_answered asked request result is whole untouched =
       subst (λ a. MeansBy a source out errs result) (sym is)
-      (ends_answered (IsAsked (Some request)) (IsRead (Some request)) usage_line (IsAskedAbout (Some request)) RefusedFor tree_line (AnswersTo (Some request)) RefusesNone source out errs (end_of result) tt whole (is_answered request source out result whole) untouched)
+      (ends_answered (IsAsked (Some request)) (AsksForReport (Some request)) usage_line (IsAskedAbout (Some request)) RefusedFor tree_line (AnswersTo (Some request)) RefusesNone source out errs (end_of result) tt whole (is_answered request source out result whole) untouched)
 
   -- why it isn't is told
-  pub means_stopped : (asked : Option Request) (request : Request) (cause : ReportError) (result : ReportStatus) → asked ≡ Some request → Ends request source out (Err cause) → TellsEnd errs (line_of cause) (stop_of cause) (end_of result) → MeansBy asked source out errs result
+  pub means_stopped : (asked : Option Request) (request : Request) (cause : ReportError) (result : ReportStatus) → asked ≡ Some request → Ends request source out (Err cause) → TellsEnd errs (line_on_error cause) (stop_of cause) (end_of result) → MeansBy asked source out errs result
   means_stopped asked request cause result is why tells =
       subst (λ a. MeansBy a source out errs result) (sym is)
-      (ends_told (IsAsked (Some request)) (IsRead (Some request)) usage_line (IsAskedAbout (Some request)) (AnswersTo (Some request)) RefusesNone source out errs cause (end_of result) tt why tells)
+      (ends_told (IsAsked (Some request)) (AsksForReport (Some request)) usage_line (IsAskedAbout (Some request)) (AnswersTo (Some request)) RefusesNone source out errs cause (end_of result) tt why tells)
 
 -- ---- completeness
 
@@ -70,7 +70,7 @@ made_not_read : (functions : ℕ) → Some functions ≡ None → ⊥
 made_not_read functions same = absurd (cc)
 
 pub clear_stopped : (asked : Option Request) (request : Request) (source : SourceCall) (out errs : SinkCall) (cause : ReportError) (result : ReportStatus) → asked ≡ Some request → IsClearFor asked source out
-    → (request.make ≡ None → (input : List ℕ) (program : Tree) → source.left ≡ Some input → Stands input program → IsNotRefused cause) → Ends request source out (Err cause) → TellsEnd errs (line_of cause) (stop_of cause) (end_of result) → IsDoneOrMemory (end_of result)
+    → (request.make ≡ None → (input : List ℕ) (program : Tree) → source.left ≡ Some input → Stands input program → IsNotRefused cause) → Ends request source out (Err cause) → TellsEnd errs (line_on_error cause) (stop_of cause) (end_of result) → IsDoneOrMemory (end_of result)
 clear_stopped asked request source out errs cause result is clear kept why tells =
     subst IsDoneOrMemory (sym (memory_ends errs cause (end_of result) (by request.make refl (subst (λ a. IsClearFor a source out) is clear)) tells)) tt
   where

@@ -54,9 +54,9 @@ IsAsked None = ⊥
 IsAsked (Some request) = Unit {0}
 
 -- the words ask for the report of the input
-abbrev pub IsRead : Option Request → Type 0
-IsRead None = ⊥
-IsRead (Some request) = request.make ≡ None
+abbrev pub AsksForReport : Option Request → Type 0
+AsksForReport None = ⊥
+AsksForReport (Some request) = request.make ≡ None
 
 -- what they ask about
 abbrev pub IsAskedAbout : Option Request → SourceCall → Tree → Type 0
@@ -75,7 +75,7 @@ RefusesNone p line = ⊥
 -- what the program has done at a status, by what the words ask for
 abbrev pub MeansBy : Option Request → SourceCall → SinkCall → SinkCall → ReportStatus → Type 0
 MeansBy asked source out errs status =
-    MeansOf (IsAsked asked) (IsRead asked) usage_line (IsAskedAbout asked) RefusedFor tree_line (AnswersTo asked) RefusesNone source out errs (end_of status)
+    MeansOf (IsAsked asked) (AsksForReport asked) usage_line (IsAskedAbout asked) RefusedFor tree_line (AnswersTo asked) RefusesNone source out errs (end_of status)
 
 -- What the program has done at each status.
 abbrev pub Means : SourceCall → SinkCall → SinkCall → List (String Global) → ReportStatus → Type 0

@@ -48,8 +48,8 @@ count_of (digit ∷ digits) = if digit == 48 || nat_lt 5 (length digits) then No
 -- ---- requests
 
 -- nothing is asked for but the report
-abbrev pub plain : Request
-plain = record { check = false; nodes = false; classes = false; stats = false; make = None }
+abbrev pub plain_request : Request
+plain_request = record { check = false; nodes = false; classes = false; stats = false; make = None }
 
 -- what a word without a number asks for besides
 abbrev pub asking : Word → Request → Request
@@ -73,4 +73,4 @@ abbrev mutual
 
 -- none where a word isn't known, or a number is missing or not so written
 abbrev pub request_of : List (String Global) → Option Request
-request_of words = with_words plain words
+request_of words = with_words plain_request words

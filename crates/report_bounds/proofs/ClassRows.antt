@@ -33,9 +33,9 @@ use Rattle.check_model.specs.Functions.{may_precede, is_sloppy_repeat, is_async_
 use Rattle.check_model.specs.Members as typed
 use Rattle.check_model.specs.Methods.{is_bodiless_value, is_parameter_property, parameter_rows, items_of, is_accessor, bodiless_rows, check_method_definition, repeated_rows, check_formal_parameters}
 use Rattle.check_model.specs.Search.{rows_if, row_if, rows_of_some, passes, first, last, find_last, each_after, each_between, neighbours}
-use Rattle.check_model.specs.Sight.{Sight, SeenClass, entries_in, entries_of}
+use Rattle.check_model.specs.Sight.{Sight, SeenClass, entries_in, symbol_entries}
 use Rattle.check_model.specs.Super.{Verdict, allowed, allowed_unless_call, allowed_in_derived, refused, is_call, is_call_node, if_call, call_around, refused_row, derived_rows, verdict_rows, search_from, check_super}
-use Rattle.check_model.specs.Surroundings.{parent, is_strict, is_module, is_typescript, is_in_static_block, is_under, node_of, outward, text_at, first_bytes}
+use Rattle.check_model.specs.Surroundings.{parent, is_strict, is_module, is_typescript, is_in_static_block, is_under, node_by_id, nodes_outward, text_under, first_bytes}
 use Rattle.table_bounds.specs.Tellable.{IsTellableEntry, IsTellableSymbol}
 use Rattle.table_bounds.proofs.Lists.{all_filtered}
 use Rattle.report_bounds.proofs.Rows.{HasNumbers, AreShort, own_short, own, children, child, inside_wrappers, names, all_found, all_found_last, all_first, all_last, all_neighbours, all_mapped, all_flat, Fine, AllFine, one, row, rows, choice, pick, both, some, each, after, between, plain_word}
@@ -102,15 +102,15 @@ module _ (s : Sight) (f : IsFine s) where
 
   pub class_redeclaration : AllFine (check_class_redeclaration s)
   class_redeclaration =
-      rows (not (is_typescript s)) (rows_of_some (λ ident. rows_of_some (λ before. row_if (meets before.flags.bits symbol.Function.bits) (redeclaration ident.text before.span ident.span)) (one_before_last (entries_of s ident))) (child_of roles.Id s.node))
-      (some AreShort (λ ident. rows_of_some (λ before. row_if (meets before.flags.bits symbol.Function.bits) (redeclaration ident.text before.span ident.span)) (one_before_last (entries_of s ident))) (child_of roles.Id s.node) (child roles.Id s.node f.node)
+      rows (not (is_typescript s)) (rows_of_some (λ ident. rows_of_some (λ before. row_if (meets before.flags.bits symbol.Function.bits) (redeclaration ident.text before.span ident.span)) (one_before_last (symbol_entries s ident))) (child_of roles.Id s.node))
+      (some AreShort (λ ident. rows_of_some (λ before. row_if (meets before.flags.bits symbol.Function.bits) (redeclaration ident.text before.span ident.span)) (one_before_last (symbol_entries s ident))) (child_of roles.Id s.node) (child roles.Id s.node f.node)
       (λ ident h. let at : HasNumbers ident.span = own ident h in
-      some IsTellableEntry (λ before. row_if (meets before.flags.bits symbol.Function.bits) (redeclaration ident.text before.span ident.span)) (one_before_last (entries_of s ident)) (before_fine (entries_of s ident) (entries_of_fine s ident f))
+      some IsTellableEntry (λ before. row_if (meets before.flags.bits symbol.Function.bits) (redeclaration ident.text before.span ident.span)) (one_before_last (symbol_entries s ident)) (before_fine (symbol_entries s ident) (entries_of_fine s ident f))
       (λ before k. let there : HasNumbers before.span = entry_numbers before k in row (meets before.flags.bits symbol.Function.bits) (redeclaration ident.text before.span ident.span) (record { code = tt; labels = (record { start = there.0; end = there.1 }, (record { start = at.0; end = at.1 }, tt)) }))))
 
   clash_fine : (before e : Element) → HasElementNumbers before → HasElementNumbers e → Fine (clash_row s before e)
   clash_fine before e h k =
-      pick (e.is_private && (is_typescript s && not (same_truth before.is_static e.is_static))) (static_and_instance_private_identifier e.name before.span e.span) (redeclaration (text_at s before.span) before.span e.span)
+      pick (e.is_private && (is_typescript s && not (same_truth before.is_static e.is_static))) (static_and_instance_private_identifier e.name before.span e.span) (redeclaration (text_under s before.span) before.span e.span)
       (record { code = plain_word (codes "TS(2804)") refl refl; labels = (record { start = h.0; end = h.1 }, (record { start = k.0; end = k.1 }, tt)) }) (record { code = tt; labels = (record { start = h.0; end = h.1 }, (record { start = k.0; end = k.1 }, tt)) })
 
   elements_fine : (earlier : List Element) (e : Element) → AllByRecursion HasElementNumbers earlier → HasElementNumbers e → AllFine (element_rows s earlier e)
@@ -140,7 +140,7 @@ module _ (s : Sight) (f : IsFine s) where
       (λ key k. let at : HasNumbers key.span = own key k in
       one (typed.missing_implementation member key) (pick (has_text (codes "constructor") member) (constructor_implementation_missing key.span) (function_implementation_missing key.span) (record { code = plain_word (codes "TS(2390)") refl refl; labels = (record { start = at.0; end = at.1 }, tt) }) (record { code = plain_word (codes "TS(2391)") refl refl; labels = (record { start = at.0; end = at.1 }, tt) }))))
 
-  pub typed_class : AllFine (typed.check_class s)
+  pub typed_class : AllFine (typed.check_class_members s)
   typed_class =
       both (rows_if (not (has mark.Abstract s.node)) (flat_map typed.abstract_rows (members s.node))) (rows_if (not s.is_ambient) (each_between typed.implementation_rows None (members s.node)))
       (rows (not (has mark.Abstract s.node)) (flat_map typed.abstract_rows (members s.node)) (each AreShort typed.abstract_rows (members s.node) (members_short s.node f.node) abstract_fine))
@@ -194,8 +194,8 @@ module _ (s : Sight) (f : IsFine s) where
 
   pub function_redeclaration : AllFine (check_function_redeclaration s)
   function_redeclaration =
-      rows (not (is_typescript s) && (is_declared_function s.node && not (is_function_decl_part_of_if_statement s))) (rows_of_some (λ ident. redeclared_rows s ident (entries_of s ident)) (child_of roles.Id s.node))
-      (some AreShort (λ ident. redeclared_rows s ident (entries_of s ident)) (child_of roles.Id s.node) (child roles.Id s.node f.node) (λ ident h. redeclared_fine ident (entries_of s ident) h (entries_of_fine s ident f)))
+      rows (not (is_typescript s) && (is_declared_function s.node && not (is_function_decl_part_of_if_statement s))) (rows_of_some (λ ident. redeclared_rows s ident (symbol_entries s ident)) (child_of roles.Id s.node))
+      (some AreShort (λ ident. redeclared_rows s ident (symbol_entries s ident)) (child_of roles.Id s.node) (child roles.Id s.node f.node) (λ ident h. redeclared_fine ident (symbol_entries s ident) h (entries_of_fine s ident f)))
 
   -- ---- exports and imports
 
@@ -309,15 +309,15 @@ module _ (s : Sight) (f : IsFine s) where
       by None h = tt
       by (Some node) h = called (is_call_node node) node h
 
-  node_short : (id : ℕ) → IfSome (node_of s id) AreShort
-  node_short id = all_found AreShort (λ node. node.node_id == id) (outward s) (f.node, f.path)
+  node_short : (id : ℕ) → IfSome (node_by_id s id) AreShort
+  node_short id = all_found AreShort (λ node. node.node_id == id) (nodes_outward s) (f.node, f.path)
 
   derived_fine : (kept : List SeenClass) → AllFine (derived_rows s kept)
   derived_fine kept =
-      some AreShort (λ class. row_if (not (has_child roles.Heritage class)) (super_without_derived_class s.node.span class.span)) (option_and_then (λ class. node_of s class.node) (first kept)) (by (first kept))
+      some AreShort (λ class. row_if (not (has_child roles.Heritage class)) (super_without_derived_class s.node.span class.span)) (option_and_then (λ class. node_by_id s class.node) (first kept)) (by (first kept))
       (λ class h. let at : HasNumbers class.span = own class h in row (not (has_child roles.Heritage class)) (super_without_derived_class s.node.span class.span) (record { code = tt; labels = (record { start = here.0; end = here.1 }, (record { start = at.0; end = at.1 }, tt)) }))
     where
-      by : (o : Option SeenClass) → IfSome (option_and_then (λ class. node_of s class.node) o) AreShort
+      by : (o : Option SeenClass) → IfSome (option_and_then (λ class. node_by_id s class.node) o) AreShort
       by None = tt
       by (Some class) = node_short class.node
 

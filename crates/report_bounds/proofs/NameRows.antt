@@ -17,12 +17,12 @@ use Rattle.semantic_diagnostics.specs.declared.diagnostic.Diagnostic.{Diagnostic
 use Rattle.semantic_tree.specs.BoundNames.{bound_names}
 use Rattle.check_model.specs.Bodies.{is_declared_function, check_function_declaration, is_single_body, check_function_declaration_in_labeled_statement, check_with_statement}
 use Rattle.check_model.specs.Groups.{under_labels}
-use Rattle.check_model.specs.Jumps.{is_boundary, is_end, is_loop_node, is_loop_or_switch, is_labelled_by, unlabelled_rows, continue_rows, met_rows, labelled_rows, break_rows, check_break_statement, continue_rows_by, check_continue_statement, same_label_around, own_label_rows, check_labeled_statement}
+use Rattle.check_model.specs.Jumps.{stops_jumps, ends_jump_search, is_loop_node, is_loop_or_switch, is_labelled_by, unlabelled_rows, continue_rows, met_rows, labelled_rows, break_rows, check_break_statement, continue_rows_by, check_continue_statement, same_label_around, own_label_rows, check_labeled_statement}
 use Rattle.check_model.specs.Literals.{has_leading_zero, leading_zero_rows, check_number_literal, is_octal_escape, first_bad_escape, escape_rows, is_escaped, check_string_literal, has_complex_parameters, check_directive}
-use Rattle.check_model.specs.Names.{is_reserved, reserved_because, not_assigned_because, await_rows, check_identifier, is_eval_or_arguments, is_plain_binding, eval_binding_rows, declaration_around, let_rows, check_binding_identifier, is_bad_write, is_field_value, is_static_block, owner_of_arguments, arguments_rows, check_identifier_reference, check_private_identifier_outside_class}
+use Rattle.check_model.specs.Names.{is_strict_reserved, reserved_because, not_assigned_because, await_rows, check_identifier, is_eval_or_arguments, is_plain_binding, eval_binding_rows, declaration_around, let_rows, check_binding_identifier, is_bad_write, is_field_value, is_static_block, owner_of_arguments, arguments_rows, check_identifier_reference, check_private_identifier_outside_class}
 use Rattle.check_model.specs.Rows.{own_identifier_rows, body_rows, labelled_body_rows, left_rows}
 use Rattle.check_model.specs.Search.{rows_if, row_if, rows_of_some, first, only}
-use Rattle.check_model.specs.Sight.{Sight, entries_of}
+use Rattle.check_model.specs.Sight.{Sight, symbol_entries}
 use Rattle.check_model.specs.Entries.{one_before_last}
 use Rattle.check_model.specs.Surroundings.{scope_passes, is_strict, is_in_function, is_at_top, is_module, is_script, is_typescript, is_definition, is_in_static_block, parent_passes, is_under, bytes_at, first_bytes}
 use Rattle.check_model.specs.TypedLoops as typed
@@ -40,9 +40,9 @@ await_fine name span s h =
 
 identifier_fine : (name : List ℕ) (span : Span) (s : Sight) → HasNumbers span → AllFine (check_identifier name span s)
 identifier_fine name span s h =
-    rows (not s.is_ambient) (if bytes_eq name (codes "await") then await_rows name span s else row_if (is_reserved name && is_strict s) (reserved_keyword name span (reserved_because s)))
-    (choice (bytes_eq name (codes "await")) (await_rows name span s) (row_if (is_reserved name && is_strict s) (reserved_keyword name span (reserved_because s)))
-    (await_fine name span s h) (row (is_reserved name && is_strict s) (reserved_keyword name span (reserved_because s)) (record { code = tt; labels = (record { start = h.0; end = h.1 }, tt) })))
+    rows (not s.is_ambient) (if bytes_eq name (codes "await") then await_rows name span s else row_if (is_strict_reserved name && is_strict s) (reserved_keyword name span (reserved_because s)))
+    (choice (bytes_eq name (codes "await")) (await_rows name span s) (row_if (is_strict_reserved name && is_strict s) (reserved_keyword name span (reserved_because s)))
+    (await_fine name span s h) (row (is_strict_reserved name && is_strict s) (reserved_keyword name span (reserved_because s)) (record { code = tt; labels = (record { start = h.0; end = h.1 }, tt) })))
 
 module _ (s : Sight) (f : IsFine s) where
   here : HasNumbers s.node.span
@@ -138,13 +138,13 @@ module _ (s : Sight) (f : IsFine s) where
 
   unlabelled_fine : (is_target : Node → Bool) (refusal : Diagnostic) → Fine refusal → AllFine (unlabelled_rows is_target refusal s.path)
   unlabelled_fine is_target refusal h =
-      some AreShort (λ met. row_if (not (is_target met)) refusal) (find (λ node. is_end node || is_target node) s.path) (all_found AreShort (λ node. is_end node || is_target node) s.path f.path) (λ met k. row (not (is_target met)) refusal h)
+      some AreShort (λ met. row_if (not (is_target met)) refusal) (find (λ node. ends_jump_search node || is_target node) s.path) (all_found AreShort (λ node. ends_jump_search node || is_target node) s.path f.path) (λ met k. row (not (is_target met)) refusal h)
 
   labelled_jump : (target_rows : Node → List Diagnostic) (label : Node) → AreShort label → ((target : Node) → AreShort target → AllFine (target_rows target)) → AllFine (labelled_rows target_rows label s.path)
   labelled_jump target_rows label h k =
       let at : HasNumbers label.span = own label h in
-      some AreShort (met_rows target_rows label) (find (λ node. is_end node || is_labelled_by label node) s.path) (all_found AreShort (λ node. is_end node || is_labelled_by label node) s.path f.path)
-      (λ met l. choice (is_boundary met) (invalid_label_jump_target label.span ∷ []) (if is kinds.Program met then invalid_label_target label.span ∷ [] else target_rows met)
+      some AreShort (met_rows target_rows label) (find (λ node. ends_jump_search node || is_labelled_by label node) s.path) (all_found AreShort (λ node. ends_jump_search node || is_labelled_by label node) s.path f.path)
+      (λ met l. choice (stops_jumps met) (invalid_label_jump_target label.span ∷ []) (if is kinds.Program met then invalid_label_target label.span ∷ [] else target_rows met)
       (one (invalid_label_jump_target label.span) (record { code = tt; labels = (record { start = at.0; end = at.1 }, tt) }))
       (choice (is kinds.Program met) (invalid_label_target label.span ∷ []) (target_rows met) (one (invalid_label_target label.span) (record { code = tt; labels = (record { start = at.0; end = at.1 }, tt) })) (k met l)))
 
@@ -174,7 +174,7 @@ module _ (s : Sight) (f : IsFine s) where
       some AreShort (own_label_rows s.path) (child_of roles.Label s.node) (child roles.Label s.node f.node)
       (λ label h. let at : HasNumbers label.span = own label h in
       some AreShort (λ outer. rows_of_some (λ first. label_redeclaration label.text first.span label.span ∷ []) (child_of roles.Label outer)) (same_label_around label s.path)
-      (all_found_before AreShort is_boundary (is_labelled_by label) s.path f.path)
+      (all_found_before AreShort stops_jumps (is_labelled_by label) s.path f.path)
       (λ outer k. some AreShort (λ first. label_redeclaration label.text first.span label.span ∷ []) (child_of roles.Label outer) (child roles.Label outer k)
       (λ first l. let there : HasNumbers first.span = own first l in one (label_redeclaration label.text first.span label.span) (record { code = tt; labels = (record { start = there.0; end = there.1 }, (record { start = at.0; end = at.1 }, tt)) }))))
 
@@ -195,7 +195,7 @@ module _ (s : Sight) (f : IsFine s) where
   annotation_fine true ident h = let at : HasNumbers ident.span = own ident h in (record { code = plain_word (codes "TS(2404)") refl refl; labels = (record { start = at.0; end = at.1 }, tt) }, tt)
   annotation_fine false ident h = let at : HasNumbers ident.span = own ident h in (record { code = plain_word (codes "TS(2483)") refl refl; labels = (record { start = at.0; end = at.1 }, tt) }, tt)
 
-  typed_fine : (left : Node) (for_in : Bool) → AreShort left → AllFine (typed.check_for_statement_left left for_in s)
+  typed_fine : (left : Node) (for_in : Bool) → AreShort left → AllFine (typed.check_typed_for_statement_left left for_in s)
   typed_fine left for_in h =
       rows (is kinds.VariableDeclaration left) (flat_map (typed.typed_rows for_in) (all_in roles.Declarators left))
       (each AreShort (typed.typed_rows for_in) (all_in roles.Declarators left) (children roles.Declarators left h)
@@ -204,9 +204,9 @@ module _ (s : Sight) (f : IsFine s) where
 
   pub left : (for_in : Bool) → AllFine (left_rows for_in s)
   left for_in =
-      both (rows_of_some (λ left. check_for_statement_left left for_in s) (child_of roles.Left s.node)) (rows_of_some (λ left. typed.check_for_statement_left left for_in s) (child_of roles.Left s.node))
+      both (rows_of_some (λ left. check_for_statement_left left for_in s) (child_of roles.Left s.node)) (rows_of_some (λ left. typed.check_typed_for_statement_left left for_in s) (child_of roles.Left s.node))
       (some AreShort (λ left. check_for_statement_left left for_in s) (child_of roles.Left s.node) (child roles.Left s.node f.node) (λ left h. head_fine left for_in h))
-      (some AreShort (λ left. typed.check_for_statement_left left for_in s) (child_of roles.Left s.node) (child roles.Left s.node f.node) (λ left h. typed_fine left for_in h))
+      (some AreShort (λ left. typed.check_typed_for_statement_left left for_in s) (child_of roles.Left s.node) (child roles.Left s.node f.node) (λ left h. typed_fine left for_in h))
 
   pub variable_declaration : AllFine (check_variable_declaration s)
   variable_declaration =
@@ -217,6 +217,6 @@ module _ (s : Sight) (f : IsFine s) where
   declarator_redeclaration =
       rows (not (is_typescript s) && (parent_passes s (has_text (codes "var")) && not (lets_var_redeclare s))) (flat_map (name_rows s) (bound_names s.node))
       (each AreShort (name_rows s) (bound_names s.node) (names s.node f.node)
-      (λ name h. some IsTellableEntry (λ before. row_if (meets before.flags.bits symbol.Function.bits) (redeclaration name.text before.span s.node.span)) (one_before_last (entries_of s name))
-      (before_fine (entries_of s name) (entries_of_fine s name f))
+      (λ name h. some IsTellableEntry (λ before. row_if (meets before.flags.bits symbol.Function.bits) (redeclaration name.text before.span s.node.span)) (one_before_last (symbol_entries s name))
+      (before_fine (symbol_entries s name) (entries_of_fine s name f))
       (λ before k. row (meets before.flags.bits symbol.Function.bits) (redeclaration name.text before.span s.node.span) (record { code = tt; labels = (record { start = k.start; end = k.end }, (record { start = here.0; end = here.1 }, tt)) }))))

@@ -41,7 +41,7 @@ by_kind kinds.VariableDeclaration s f = names.variable_declaration s f
 by_kind kinds.VariableDeclarator s f = names.declarator_redeclaration s f
 by_kind kinds.Function s f = classes.function_redeclaration s f
 by_kind kinds.Class s f =
-    both (class.check_class s ++ class.check_class_redeclaration s) (typed.check_class s) (both (class.check_class s) (class.check_class_redeclaration s) (classes.class_rows_fine s f) (classes.class_redeclaration s f)) (classes.typed_class s f)
+    both (class.check_class s ++ class.check_class_redeclaration s) (typed.check_class_members s) (both (class.check_class s) (class.check_class_redeclaration s) (classes.class_rows_fine s f) (classes.class_redeclaration s f)) (classes.typed_class s f)
 by_kind kinds.MethodDefinition s f = classes.method_definition s f
 by_kind kinds.FormalParameters s f = classes.formal_parameters s f
 by_kind kinds.Super s f = classes.super_rows s f

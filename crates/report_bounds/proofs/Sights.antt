@@ -11,7 +11,7 @@ use Rattle.semantic_tree.specs.declared.node.Node.{Node}
 use Rattle.semantic_model.specs.Class.{PrivateUse}
 use Rattle.semantic_model.specs.Element.{Element}
 use Rattle.check_model.specs.Entries.{before_last, one_before_last}
-use Rattle.check_model.specs.Sight.{Sight, entries_in, entries_of}
+use Rattle.check_model.specs.Sight.{Sight, entries_in, symbol_entries}
 use Rattle.check_model.specs.Surroundings.{first_bytes}
 use Rattle.table_bounds.specs.Tellable.{IsTellableEntry, AreTellableEntries, IsTellableSymbol}
 use Rattle.table_bounds.proofs.Nodes.{IsShort}
@@ -43,7 +43,7 @@ pub entries_fine : (o : Option Symbol) → IfSome o IsTellableSymbol → AllByRe
 entries_fine None h = tt
 entries_fine (Some y) h = listed y.redeclarations h.redeclarations
 
-pub entries_of_fine : (s : Sight) (ident : Node) → IsFine s → AllByRecursion IsTellableEntry (entries_of s ident)
+pub entries_of_fine : (s : Sight) (ident : Node) → IsFine s → AllByRecursion IsTellableEntry (symbol_entries s ident)
 entries_of_fine s ident h = entries_fine (option_and_then (slice_get s.symbols) (lookup (nat_eq ident.node_id) s.declared)) (by (lookup (nat_eq ident.node_id) s.declared))
   where
     by : (o : Option ℕ) → IfSome (option_and_then (slice_get s.symbols) o) IsTellableSymbol

@@ -21,7 +21,7 @@ use Rattle.semantic_model.specs.Step.{Step, entering, opening, header_ending, cl
 use Rattle.semantic_model.proofs.lists.Members.{among_left, among_right}
 use Rattle.semantic_model.proofs.steps.EachStep.{EachStep, each-append, each_of_node}
 use Rattle.semantic_model.proofs.steps.TurnCases.{opening_case, ending_case, last_case}
-use Rattle.check_model.specs.DiagnosticsOf.{told, conflicts_since, rows_at, told_along, free_of, diagnostics_of}
+use Rattle.check_model.specs.DiagnosticsOf.{conflict_diagnostic, conflicts_since, rows_at, told_along, free_reference_nodes, diagnostics_of}
 use Rattle.check_model.specs.SightOf.{sight_of}
 use Rattle.program_laws.proofs.TreeNodes.{nodes_below}
 use Rattle.program_laws.proofs.Walked.{steps_within}
@@ -88,13 +88,13 @@ steps_fine (tree r kind span text marks below id after) p own n cursor h k =
 
 -- ---- what is told
 
-conflict_fine : (c : Conflict) → IsBoundedConflict c → Fine (told c)
+conflict_fine : (c : Conflict) → IsBoundedConflict c → Fine (conflict_diagnostic c)
 conflict_fine c h = record {
   code = tt;
   labels = (record { start = h.earlier_start; end = h.earlier_end }, (record { start = h.later_start; end = h.later_end }, tt));
 }
 
-conflicts_fine : (cs : List Conflict) → AllByRecursion IsBoundedConflict cs → AllFine (map told cs)
+conflicts_fine : (cs : List Conflict) → AllByRecursion IsBoundedConflict cs → AllFine (map conflict_diagnostic cs)
 conflicts_fine [] h = tt
 conflicts_fine (c ∷ cs) h = (conflict_fine c h.0, conflicts_fine cs h.1)
 
@@ -120,8 +120,8 @@ along_fine checks source free ds st [] h k b = tt
 along_fine checks source free ds st (s ∷ ss) h k b =
     let now : State = run st (events_of ds s) in
     let bounded : IsBoundedState now = run_bounded st (events_of ds s) (k s (inl refl)) b in
-    both (map told (conflicts_since st now) ++ rows_at checks source free now s) (told_along checks source free ds now ss)
-    (both (map told (conflicts_since st now)) (rows_at checks source free now s)
+    both (map conflict_diagnostic (conflicts_since st now) ++ rows_at checks source free now s) (told_along checks source free ds now ss)
+    (both (map conflict_diagnostic (conflicts_since st now)) (rows_at checks source free now s)
     (conflicts_fine (conflicts_since st now) (all_dropped IsBoundedConflict (length st.conflicts) now.conflicts bounded.conflicts)) (rows_at_fine checks source free now s bounded h.0))
     (along_fine checks source free ds now ss h.1 (λ t a. k t (inr a)) bounded)
 
@@ -165,7 +165,7 @@ module _ (p : Tree) (faultless : first_fault p ≡ None) (numbered : IsNumbered 
 
   pub diagnostics_tellable : (checks : Bool) → AllByRecursion IsTellableDiagnostic (diagnostics_of checks p)
   diagnostics_tellable checks =
-      along_fine checks (encode_utf8_all p.source) (free_of (steps p)) (written_declarations (steps p)) start (steps p) each_fine (bounded_events (written_declarations (steps p))) start_bounded
+      along_fine checks (encode_utf8_all p.source) (free_reference_nodes (steps p)) (written_declarations (steps p)) start (steps p) each_fine (bounded_events (written_declarations (steps p))) start_bounded
 
   pub nodes_tellable : AllByRecursion IsTellableNode (entered_nodes (steps p))
   nodes_tellable = nodes_fine (steps p) each_fine step_bounded

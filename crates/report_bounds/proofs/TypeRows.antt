@@ -12,7 +12,7 @@ use Rattle.semantic_tree.specs.Views.{is, has, has_child, all_in, child_of}
 use Rattle.semantic_tree.specs.declared.node.Node.{Node}
 use Rattle.semantic_diagnostics.specs.Functions.{type_predicate_only_in_return_type}
 use Rattle.semantic_diagnostics.specs.Types.{jsdoc_type_in_annotation, not_allowed_namespace_declaration, not_allowed_ambient_module_declaration, nested_ambient_module_declaration, global_scope_augmentation_should_have_declare_modifier, enum_member_must_have_initializer, infer_declaration_only_permitted_in_extends_clause, ts_export_assignment_cannot_be_used_with_other_exports}
-use Rattle.check_model.specs.Assignments.{exports, assignment_row, export_assignment_rows, block_rows}
+use Rattle.check_model.specs.Assignments.{exports_otherwise, assignment_row, export_assignment_rows, block_rows}
 use Rattle.check_model.specs.Groups.{is_namespace, under_namespaces}
 use Rattle.check_model.specs.Namespaces.{places, is_top, place_rows, check_ts_namespace_declaration, starts_from, global_span_at, global_span, check_ts_global_declaration, is_module_place, is_in_module_kind, misplaced_module, check_ts_external_module_declaration}
 use Rattle.check_model.specs.Search.{row_if, rows_of_some, first}
@@ -30,7 +30,7 @@ assignment_fine : (statement : Node) → AreShort statement → AllFine (assignm
 assignment_fine statement h = let at : HasNumbers statement.span = own statement h in row (is kinds.TSExportAssignment statement) (ts_export_assignment_cannot_be_used_with_other_exports statement.span) (record { code = plain_word (codes "TS(2309)") refl refl; labels = (record { start = at.0; end = at.1 }, tt) })
 
 pub export_assignment : (statements : List Node) → AllByRecursion AreShort statements → AllFine (export_assignment_rows statements)
-export_assignment statements h = rows (list_any exports statements) (flat_map assignment_row statements) (each AreShort assignment_row statements h assignment_fine)
+export_assignment statements h = rows (list_any exports_otherwise statements) (flat_map assignment_row statements) (each AreShort assignment_row statements h assignment_fine)
 
 block_fine : (block : Node) → AreShort block → AllFine (block_rows block)
 block_fine block h = export_assignment (all_in roles.Body block) (children roles.Body block h)

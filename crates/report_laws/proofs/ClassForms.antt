@@ -76,9 +76,9 @@ element_written class n e rest =
 use_written : (class : ℕ) (u : PrivateUse) (rest : List ℕ) → private_use_line class u ++ rest ≡ codes "use " ++ written use_form (use_value class u) rest
 unfolding private_use_text
 use_written class u rest =
-    concat_onto (codes "use " ∷ decimal class ∷ codes " node " ∷ decimal u.id ∷ codes " " ∷ pieces.quoted (encode_utf8_all u.name) ∷ codes " span " ∷ pieces.span_text u.span ∷ codes " elements" ∷ pieces.numbers u.element_ids ∷ codes "\n" ∷ []) rest
+    concat_onto (codes "use " ∷ decimal class ∷ codes " node " ∷ decimal u.id ∷ codes " " ∷ pieces.quoted (encode_utf8_all u.name) ∷ codes " span " ∷ pieces.span_text u.span ∷ codes " elements" ∷ pieces.numbers_text u.element_ids ∷ codes "\n" ∷ []) rest
     ∙ ap (λ more. codes "use " ++ (decimal class ++ (codes " node " ++ (decimal u.id ++ (codes " " ++ (pieces.quoted (encode_utf8_all u.name) ++ (codes " span " ++ more)))))))
-    (span_written u.span (codes " elements" ++ (pieces.numbers u.element_ids ++ (codes "\n" ++ rest)))
+    (span_written u.span (codes " elements" ++ (pieces.numbers_text u.element_ids ++ (codes "\n" ++ rest)))
     ∙ ap (λ more. decimal u.span.start ++ (codes "-" ++ (decimal u.span.end ++ (codes " elements" ++ more)))) (numbers_end u.element_ids rest))
 
 line_written : (i : ℕ) (c : Class) (rest : List ℕ) → class_line i c.node c.parent ++ rest ≡ codes "class " ++ (decimal i ++ (codes " node " ++ (decimal c.node ++ (codes " parent " ++ (pieces.number_or_dash c.parent ++ (codes "\n" ++ rest))))))

@@ -7,7 +7,7 @@ use Rattle.semantic_syntax.proofs.Every.{every-or}
 use Rattle.semantic_syntax.specs.Tables.{Tables}
 use Rattle.node_store.specs.NodeList.{NodeList, SeenNode}
 use Rattle.node_store.specs.Outward.{numbered_from}
-use Rattle.report_lines.specs.CountLines.{node_line, node_line_by, counts_text, counts_of, stats_line}
+use Rattle.report_lines.specs.CountLines.{node_line, node_line_by, counts_text, table_counts, stats_line}
 use Rattle.table_bounds.specs.Tellable.{IsWrittenWhole, AreNumbers, AreTellable}
 use Rattle.report_laws.specs.Found.{HaveSameNodes}
 use Rattle.report_laws.proofs.Forms.{number, kind_word, Form, end, word, piece, Values, written, AreTold}
@@ -90,7 +90,7 @@ counts_written a b c d rest =
 pub stats_written : (t : Tables) (count : ℕ) (rest : List ℕ) → stats_line count t ++ rest ≡ codes "stats" ++ written stats_form (stats_value t count) rest
 unfolding stats_line
 stats_written t count rest =
-    concat_onto (codes "stats" ∷ counts_of count t ∷ codes "\n" ∷ []) rest ∙ ap (λ more. codes "stats" ++ more) (counts_written count (length t.scopes) (length t.symbols) (length t.references) (codes "\n" ++ rest))
+    concat_onto (codes "stats" ∷ table_counts count t ∷ codes "\n" ∷ []) rest ∙ ap (λ more. codes "stats" ++ more) (counts_written count (length t.scopes) (length t.symbols) (length t.references) (codes "\n" ++ rest))
 
 pub stats_told : (t : Tables) (count : ℕ) → AreTellable t → IsWrittenWhole count → AreTold stats_form (stats_value t count)
 stats_told t count h small = (small, (h.scopes_numbered, (h.symbols_numbered, (h.references_numbered, tt))))

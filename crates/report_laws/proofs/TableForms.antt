@@ -84,12 +84,12 @@ table_value f t v =
 
 -- ---- each line is of its form
 
-numbers_written : (ns : List ℕ) (rest : List ℕ) → pieces.numbers ns ++ rest ≡ written (each (codes " ") (piece number end) end) (map number_value ns, tt) rest
+numbers_written : (ns : List ℕ) (rest : List ℕ) → pieces.numbers_text ns ++ rest ≡ written (each (codes " ") (piece number end) end) (map number_value ns, tt) rest
 numbers_written ns rest =
     each_line (codes " ") (written (piece number end)) pieces.behind_space number_value (λ n more. append_assoc (codes " ") (decimal n) more) ns rest rest refl
 
 -- numbers at the end of a line
-pub numbers_end : (ns : List ℕ) (rest : List ℕ) → pieces.numbers ns ++ (codes "\n" ++ rest) ≡ written (numbers_form end) (map number_value ns, tt) rest
+pub numbers_end : (ns : List ℕ) (rest : List ℕ) → pieces.numbers_text ns ++ (codes "\n" ++ rest) ≡ written (numbers_form end) (map number_value ns, tt) rest
 numbers_end ns rest = numbers_written ns (codes "\n" ++ rest)
 
 pub span_written : (span : Span) (rest : List ℕ) → pieces.span_text span ++ rest ≡ decimal span.start ++ (codes "-" ++ (decimal span.end ++ rest))
@@ -106,15 +106,15 @@ scope_written t i s rest =
     let line : List ℕ = scope_line i s in
     append_assoc (scope_line i s) (flat_map (bind_line i) (bindings_of t i)) rest
     ∙ ap (λ more. scope_line i s ++ more) (each_line (codes "bind ") (written bind_form) (bind_line i) (bind_value i) (bind_written i) (bindings_of t i) rest rest refl)
-    ∙ concat_onto (codes "scope " ∷ decimal i ∷ codes " parent " ∷ pieces.number_or_dash s.parent ∷ codes " node " ∷ decimal s.node ∷ codes " flags " ∷ pieces.scope_flags s.flags ∷ codes "\n" ∷ [])
+    ∙ concat_onto (codes "scope " ∷ decimal i ∷ codes " parent " ∷ pieces.number_or_dash s.parent ∷ codes " node " ∷ decimal s.node ∷ codes " flags " ∷ pieces.scope_flags_text s.flags ∷ codes "\n" ∷ [])
     (written (each (codes "bind ") bind_form end) (map (bind_value i) (bindings_of t i), tt) rest)
 
 declaration_written : (node : ℕ) (span : Span) (set : SymbolFlags) (rest : List ℕ)
-    → declaration_text node span set ++ rest ≡ codes " node " ++ (decimal node ++ (codes " span " ++ (decimal span.start ++ (codes "-" ++ (decimal span.end ++ (codes " flags " ++ (pieces.symbol_flags set ++ (codes "\n" ++ rest))))))))
+    → declaration_text node span set ++ rest ≡ codes " node " ++ (decimal node ++ (codes " span " ++ (decimal span.start ++ (codes "-" ++ (decimal span.end ++ (codes " flags " ++ (pieces.symbol_flags_text set ++ (codes "\n" ++ rest))))))))
 unfolding declaration_text
 declaration_written node span set rest =
-    concat_onto (codes " node " ∷ decimal node ∷ codes " span " ∷ pieces.span_text span ∷ codes " flags " ∷ pieces.symbol_flags set ∷ codes "\n" ∷ []) rest
-    ∙ ap (λ more. codes " node " ++ (decimal node ++ (codes " span " ++ more))) (span_written span (codes " flags " ++ (pieces.symbol_flags set ++ (codes "\n" ++ rest))))
+    concat_onto (codes " node " ∷ decimal node ∷ codes " span " ∷ pieces.span_text span ∷ codes " flags " ∷ pieces.symbol_flags_text set ∷ codes "\n" ∷ []) rest
+    ∙ ap (λ more. codes " node " ++ (decimal node ++ (codes " span " ++ more))) (span_written span (codes " flags " ++ (pieces.symbol_flags_text set ++ (codes "\n" ++ rest))))
 
 entry_written : (symbol : ℕ) (e : Redeclaration) (rest : List ℕ) → redeclaration_line symbol e ++ rest ≡ codes "redecl " ++ written entry_form (entry_value symbol e) rest
 unfolding redeclaration_line
@@ -123,7 +123,7 @@ entry_written symbol e rest =
     ∙ ap (λ more. codes "redecl " ++ (decimal symbol ++ more)) (declaration_written e.declaration e.span e.flags rest)
 
 symbol_line_written : (i : ℕ) (y : Symbol) (rest : List ℕ)
-    → symbol_line i y ++ rest ≡ codes "symbol " ++ (decimal i ++ (codes " " ++ (pieces.quoted (encode_utf8_all y.name) ++ (codes " scope " ++ (decimal y.scope ++ (codes " node " ++ (decimal y.node ++ (codes " span " ++ (decimal y.span.start ++ (codes "-" ++ (decimal y.span.end ++ (codes " flags " ++ (pieces.symbol_flags y.flags ++ (codes "\n" ++ rest))))))))))))))
+    → symbol_line i y ++ rest ≡ codes "symbol " ++ (decimal i ++ (codes " " ++ (pieces.quoted (encode_utf8_all y.name) ++ (codes " scope " ++ (decimal y.scope ++ (codes " node " ++ (decimal y.node ++ (codes " span " ++ (decimal y.span.start ++ (codes "-" ++ (decimal y.span.end ++ (codes " flags " ++ (pieces.symbol_flags_text y.flags ++ (codes "\n" ++ rest))))))))))))))
 unfolding symbol_text
 symbol_line_written i y rest =
     concat_onto (codes "symbol " ∷ decimal i ∷ codes " " ∷ pieces.quoted (encode_utf8_all y.name) ∷ codes " scope " ∷ decimal y.scope ∷ declaration_text y.node y.span y.flags ∷ []) rest
@@ -132,7 +132,7 @@ symbol_line_written i y rest =
 uses_written : (symbol : ℕ) (rs : List ℕ) (rest : List ℕ) → uses_line symbol rs ++ rest ≡ codes "uses " ++ (decimal symbol ++ written (numbers_form end) (map number_value rs, tt) rest)
 unfolding uses_line
 uses_written symbol rs rest =
-    concat_onto (codes "uses " ∷ decimal symbol ∷ pieces.numbers rs ∷ codes "\n" ∷ []) rest
+    concat_onto (codes "uses " ∷ decimal symbol ∷ pieces.numbers_text rs ∷ codes "\n" ∷ []) rest
     ∙ ap (λ more. codes "uses " ++ (decimal symbol ++ more)) (numbers_end rs rest)
 
 symbol_written : (t : Tables) (i : ℕ) (y : Symbol) (rest : List ℕ) → symbol_lines t i y ++ rest ≡ codes "symbol " ++ written symbol_form (symbol_value t i y) rest
@@ -164,7 +164,7 @@ reference_written t i r rest =
 free_written : (entry : Name × List ℕ) (rest : List ℕ) → free_line entry ++ rest ≡ codes "free " ++ written free_form (free_value entry) rest
 unfolding free_text
 free_written entry rest =
-    concat_onto (codes "free " ∷ pieces.quoted (encode_utf8_all entry.0) ∷ pieces.numbers entry.1 ∷ codes "\n" ∷ []) rest
+    concat_onto (codes "free " ∷ pieces.quoted (encode_utf8_all entry.0) ∷ pieces.numbers_text entry.1 ∷ codes "\n" ∷ []) rest
     ∙ ap (λ more. codes "free " ++ (pieces.quoted (encode_utf8_all entry.0) ++ more)) (numbers_end entry.1 rest)
 
 -- ---- all lines of tables

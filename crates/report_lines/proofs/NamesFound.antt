@@ -7,7 +7,7 @@ use Rattle.std.specs.Option.{unwrap_or}
 use Rattle.semantic_syntax.specs.declared.texts.Ident.{Ident}
 use Rattle.semantic_syntax.specs.Tables.{Name, FreeLists, Tables}
 use Rattle.report_lines.specs.TableLines.{free_name}
-use Rattle.report_lines.specs.FreeNames.{name_shown, or_name, named_once, named_each, named_by, free_names}
+use Rattle.report_lines.specs.FreeNames.{name_shown, or_name, named_once, named_each, names_with_free, free_names}
 
 -- a name, or this one where it is given
 abbrev pub or_given : Option Name → Bool → Name → Option Name
@@ -60,14 +60,14 @@ next_list (Some name) list lists r holds is = refl
 next_list None list lists r true is = rw is refl
 next_list None list lists r false is = rw is refl
 
-pub found : (names : List (Option Name)) (lists : FreeLists) (r : ℕ) → r < length names → unwrap_or (get_or (named_by names lists) r None) [] ≡ or_free (get_or names r None) lists r
+pub found : (names : List (Option Name)) (lists : FreeLists) (r : ℕ) → r < length names → unwrap_or (get_or (names_with_free names lists) r None) [] ≡ or_free (get_or names r None) lists r
 found names [] r inside = elim (get_or names r None) as (λ x. unwrap_or x [] ≡ or_free x [] r) [ None ↦ refl | Some name ↦ refl ]
 found names (list ∷ lists) r inside =
     found (named_each names list.1 list.0) lists r (rw (each_length names list.1 list.0) inside)
     ∙ ap (λ x. or_free x lists r) (each names list.1 r list.0 inside)
     ∙ next_list (get_or names r None) list lists r (list_any (λ other. other == r) list.1) refl
 
-by_length : (names : List (Option Name)) (lists : FreeLists) → length (named_by names lists) ≡ length names
+by_length : (names : List (Option Name)) (lists : FreeLists) → length (names_with_free names lists) ≡ length names
 by_length names [] = refl
 by_length names (list ∷ lists) = by_length (named_each names list.1 list.0) lists ∙ each_length names list.1 list.0
 

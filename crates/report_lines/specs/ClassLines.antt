@@ -7,9 +7,9 @@ use Rattle.semantic_syntax.specs.declared.element_kind.ElementKind.{ElementKind}
 use Rattle.semantic_model.specs.Element.{Element}
 use Rattle.semantic_model.specs.Class.{PrivateUse}
 use Rattle.class_table.specs.Lists.{ClassLists, elements_in, uses_in}
-use Rattle.class_table.specs.Outward.{parent_in}
+use Rattle.class_table.specs.Outward.{parent_class}
 use Rattle.report_ends.specs.Streams.{numbered_text}
-use Rattle.report_lines.specs.Pieces.{quoted, number_or_dash, numbers, span_text, element_flags}
+use Rattle.report_lines.specs.Pieces.{quoted, number_or_dash, numbers_text, span_text, element_flags}
 
 -- whether an element is private
 abbrev pub privacy : Bool → List ℕ
@@ -40,7 +40,7 @@ element_line class number element =
 
 -- the line of a use of a private name, given in UTF-8
 unfoldable pub private_use_text : ℕ → ℕ → List ℕ → Span → List ℕ → List ℕ
-private_use_text class node name span elements = concat (codes "use " ∷ decimal class ∷ codes " node " ∷ decimal node ∷ codes " " ∷ quoted name ∷ codes " span " ∷ span_text span ∷ codes " elements" ∷ numbers elements ∷ codes "\n" ∷ [])
+private_use_text class node name span elements = concat (codes "use " ∷ decimal class ∷ codes " node " ∷ decimal node ∷ codes " " ∷ quoted name ∷ codes " span " ∷ span_text span ∷ codes " elements" ∷ numbers_text elements ∷ codes "\n" ∷ [])
 
 -- the line of a use
 abbrev pub private_use_line : ℕ → PrivateUse → List ℕ
@@ -49,7 +49,7 @@ private_use_line class used = private_use_text class used.id (encode_utf8_all us
 -- a class with its node, its elements, and its uses of private names
 abbrev pub class_lines : ClassLists → ℕ × ℕ → List ℕ
 class_lines lists class =
-    class_line class.0 class.1 (parent_in lists.parents class.0)
+    class_line class.0 class.1 (parent_class lists.parents class.0)
     ++ (numbered_text (element_line class.0) 0 (elements_in lists class.0) ++ flat_map (private_use_line class.0) (uses_in lists class.0))
 
 -- the lines of the classes, in the order of their ids

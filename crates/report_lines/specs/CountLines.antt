@@ -31,12 +31,12 @@ counts_text nodes scopes symbols references =
     codes " nodes " ++ decimal nodes ++ codes " scopes " ++ decimal scopes ++ codes " symbols " ++ decimal symbols ++ codes " references " ++ decimal references
 
 -- the counts of tables over so many nodes
-abbrev pub counts_of : ℕ → Tables → List ℕ
-counts_of nodes t = counts_text nodes (length t.scopes) (length t.symbols) (length t.references)
+abbrev pub table_counts : ℕ → Tables → List ℕ
+table_counts nodes t = counts_text nodes (length t.scopes) (length t.symbols) (length t.references)
 
 -- the line of counts
 unfoldable pub stats_line : ℕ → Tables → List ℕ
-stats_line nodes t = concat (codes "stats" ∷ counts_of nodes t ∷ codes "\n" ∷ [])
+stats_line nodes t = concat (codes "stats" ∷ table_counts nodes t ∷ codes "\n" ∷ [])
 
 -- how many of the references are free
 abbrev pub free_count : List Reference → ℕ
@@ -45,4 +45,4 @@ free_count (reference ∷ references) = cond (is_some reference.symbol_id) 0 1 +
 
 -- the summary of a script that was made and analysed
 unfoldable pub made_line : ℕ → Tables → List ℕ
-made_line nodes t = concat (codes "made" ∷ counts_of nodes t ∷ codes " free " ∷ decimal (free_count t.references) ∷ codes "\n" ∷ [])
+made_line nodes t = concat (codes "made" ∷ table_counts nodes t ∷ codes " free " ∷ decimal (free_count t.references) ∷ codes "\n" ∷ [])

@@ -24,10 +24,10 @@ named_each names [] name = names
 named_each names (reference ∷ references) name = named_each (named_once names reference name) references name
 
 -- the names, with those of the free lists
-abbrev pub named_by : List (Option Name) → FreeLists → List (Option Name)
-named_by names [] = names
-named_by names (list ∷ lists) = named_by (named_each names list.1 list.0) lists
+abbrev pub names_with_free : List (Option Name) → FreeLists → List (Option Name)
+names_with_free names [] = names
+names_with_free names (list ∷ lists) = names_with_free (named_each names list.1 list.0) lists
 
 -- what each of the references is called by the free lists
 abbrev pub free_names : Tables → List (Option Name)
-free_names t = named_by (replicate (length t.references) None) t.free
+free_names t = names_with_free (replicate (length t.references) None) t.free

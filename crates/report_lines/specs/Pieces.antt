@@ -16,8 +16,8 @@ unfoldable pub quoted : List ℕ → List ℕ
 quoted text = compact_text (string text)
 
 -- whether a byte stands in a JSON string as it is
-abbrev pub is_plain : ℕ → Bool
-is_plain byte = nat_le 32 byte && not (byte == 34) && not (byte == 92)
+abbrev pub is_plain_byte : ℕ → Bool
+is_plain_byte byte = nat_le 32 byte && not (byte == 34) && not (byte == 92)
 
 -- a text as a JSON string, or a dash
 abbrev pub quoted_or_dash : Option (List ℕ) → List ℕ
@@ -43,8 +43,8 @@ abbrev pub behind_space : ℕ → List ℕ
 behind_space number = codes " " ++ decimal number
 
 -- a space and a number for each
-abbrev pub numbers : List ℕ → List ℕ
-numbers = flat_map behind_space
+abbrev pub numbers_text : List ℕ → List ℕ
+numbers_text = flat_map behind_space
 
 -- both ends of a span
 abbrev pub span_text : Span → List ℕ
@@ -73,12 +73,12 @@ with_bits bit [] = []
 with_bits bit (name ∷ names) = (name, bit) ∷ with_bits (2 * bit) names
 
 -- the flags of a scope
-abbrev pub scope_flags : ScopeFlags → List ℕ
-scope_flags flags = flags_text (with_bits 1 scope_flag_names) flags.bits
+abbrev pub scope_flags_text : ScopeFlags → List ℕ
+scope_flags_text flags = flags_text (with_bits 1 scope_flag_names) flags.bits
 
 -- the flags of a symbol
-abbrev pub symbol_flags : SymbolFlags → List ℕ
-symbol_flags flags = flags_text (with_bits 1 symbol_flag_names) flags.bits
+abbrev pub symbol_flags_text : SymbolFlags → List ℕ
+symbol_flags_text flags = flags_text (with_bits 1 symbol_flag_names) flags.bits
 
 -- the flags of a reference
 abbrev pub reference_flags : ReferenceFlags → List ℕ

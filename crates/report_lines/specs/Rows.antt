@@ -13,26 +13,26 @@ use Rattle.report_lines.specs.DiagnosticLine.{diagnostic_line}
 use Rattle.report_lines.specs.TableLines.{scope_line, bind_line, symbol_line, redeclaration_line, uses_line, pure_line, reference_line, free_line}
 
 -- what one line tells
-pub data Row : Type 0 where
-  node : ℕ → AstType → (parent scope : ℕ) → Row
-  scope : ℕ → Scope → Row
-  binding : (scope : ℕ) → Name × ℕ → Row
-  symbol : ℕ → Symbol → Row
-  declaration : (symbol : ℕ) → Redeclaration → Row
-  uses : (symbol : ℕ) → List ℕ → Row
-  pure : (symbol : ℕ) → Row
-  reference : Tables → ℕ → Reference → Row
-  free : Name × List ℕ → Row
-  class : ℕ → (node : ℕ) → (parent : Option ℕ) → Row
-  element : (class number : ℕ) → Element → Row
-  private_use : (class : ℕ) → PrivateUse → Row
-  label : (node : ℕ) → Row
-  stats : (nodes : ℕ) → Tables → Row
-  made : (nodes : ℕ) → Tables → Row
-  diagnostic : Diagnostic → Row
+pub data ReportRow : Type 0 where
+  node : ℕ → AstType → (parent scope : ℕ) → ReportRow
+  scope : ℕ → Scope → ReportRow
+  binding : (scope : ℕ) → Name × ℕ → ReportRow
+  symbol : ℕ → Symbol → ReportRow
+  declaration : (symbol : ℕ) → Redeclaration → ReportRow
+  uses : (symbol : ℕ) → List ℕ → ReportRow
+  pure : (symbol : ℕ) → ReportRow
+  reference : Tables → ℕ → Reference → ReportRow
+  free : Name × List ℕ → ReportRow
+  class : ℕ → (node : ℕ) → (parent : Option ℕ) → ReportRow
+  element : (class number : ℕ) → Element → ReportRow
+  private_use : (class : ℕ) → PrivateUse → ReportRow
+  label : (node : ℕ) → ReportRow
+  stats : (nodes : ℕ) → Tables → ReportRow
+  made : (nodes : ℕ) → Tables → ReportRow
+  diagnostic : Diagnostic → ReportRow
 
 -- the line of a row
-abbrev pub row_line : Row → List ℕ
+abbrev pub row_line : ReportRow → List ℕ
 row_line (node number kind parent at) = node_line number kind parent at
 row_line (scope number s) = scope_line number s
 row_line (binding at bound) = bind_line at bound
@@ -52,4 +52,4 @@ row_line (diagnostic d) = diagnostic_line d
 
 -- the text is the line of one row
 abbrev pub IsRow : List ℕ → Type 0
-IsRow text = (row : Row) × (row_line row ≡ text)
+IsRow text = (row : ReportRow) × (row_line row ≡ text)

@@ -10,13 +10,13 @@ use Rattle.semantic_syntax.specs.declared.symbol_flags.SymbolFlags.{SymbolFlags}
 use Rattle.semantic_syntax.specs.Tables.{Name, Scope, Symbol, FreeLists, Tables}
 use Rattle.semantic_syntax.specs.Reading.{symbol_of, bindings_of, uses_of}
 use Rattle.report_ends.specs.Streams.{numbered_text}
-use Rattle.report_lines.specs.Pieces.{quoted, number_or_dash, numbers, span_text, scope_flags, symbol_flags, reference_flags}
+use Rattle.report_lines.specs.Pieces.{quoted, number_or_dash, numbers_text, span_text, scope_flags_text, symbol_flags_text, reference_flags}
 
 -- ---- scopes
 
 -- the line of a scope
 unfoldable pub scope_line : ℕ → Scope → List ℕ
-scope_line number scope = concat (codes "scope " ∷ decimal number ∷ codes " parent " ∷ number_or_dash scope.parent ∷ codes " node " ∷ decimal scope.node ∷ codes " flags " ∷ scope_flags scope.flags ∷ codes "\n" ∷ [])
+scope_line number scope = concat (codes "scope " ∷ decimal number ∷ codes " parent " ∷ number_or_dash scope.parent ∷ codes " node " ∷ decimal scope.node ∷ codes " flags " ∷ scope_flags_text scope.flags ∷ codes "\n" ∷ [])
 
 -- the line of a binding of a name, given in UTF-8
 unfoldable pub bind_text : ℕ → List ℕ → ℕ → List ℕ
@@ -34,7 +34,7 @@ scope_lines t number scope = scope_line number scope ++ flat_map (bind_line numb
 
 -- the end of a line on a declaration
 unfoldable pub declaration_text : ℕ → Span → SymbolFlags → List ℕ
-declaration_text node span flags = concat (codes " node " ∷ decimal node ∷ codes " span " ∷ span_text span ∷ codes " flags " ∷ symbol_flags flags ∷ codes "\n" ∷ [])
+declaration_text node span flags = concat (codes " node " ∷ decimal node ∷ codes " span " ∷ span_text span ∷ codes " flags " ∷ symbol_flags_text flags ∷ codes "\n" ∷ [])
 
 -- the line of a symbol whose name is given in UTF-8
 unfoldable pub symbol_text : ℕ → List ℕ → ℕ → ℕ → Span → SymbolFlags → List ℕ
@@ -50,7 +50,7 @@ redeclaration_line symbol entry = concat (codes "redecl " ∷ decimal symbol ∷
 
 -- the line of the references that are tied to a symbol
 unfoldable pub uses_line : ℕ → List ℕ → List ℕ
-uses_line symbol references = concat (codes "uses " ∷ decimal symbol ∷ numbers references ∷ codes "\n" ∷ [])
+uses_line symbol references = concat (codes "uses " ∷ decimal symbol ∷ numbers_text references ∷ codes "\n" ∷ [])
 
 -- a symbol, and its declarations where it was declared again
 abbrev pub declaration_lines : ℕ → Symbol → List ℕ
@@ -93,7 +93,7 @@ reference_line t number reference = reference_text number (encode_utf8_all (refe
 
 -- the line of the free references of a name, given in UTF-8
 unfoldable pub free_text : List ℕ → List ℕ → List ℕ
-free_text name references = concat (codes "free " ∷ quoted name ∷ numbers references ∷ codes "\n" ∷ [])
+free_text name references = concat (codes "free " ∷ quoted name ∷ numbers_text references ∷ codes "\n" ∷ [])
 
 -- the line of the free references of a name
 abbrev pub free_line : Name × List ℕ → List ℕ

@@ -1,6 +1,6 @@
 //! The lines on classes, their elements, and the uses of private names.
 ghost use Rattle.std.specs.Prelude.{ℕ, ◌≡◌, ◌++◌, OnOk};
-ghost use Rattle.report_lines.specs.Pieces.{numbers, element_flags};
+ghost use Rattle.report_lines.specs.Pieces.{numbers_text, element_flags};
 ghost use Rattle.report_lines.specs.ClassLines.{privacy, ownership, class_line, element_head, element_end, private_use_text};
 
 use crate::flags::push_flags;
@@ -87,7 +87,7 @@ pub fn make_element_line(
 
 // Adds a space and a number for each element.
 fn push_elements(line: &mut Line, elements: &[ElementId]) -> Result<(), AllocError>
-    ensures { OnOk result (line.new ≡ line.old ++ numbers elements.now) }
+    ensures { OnOk result (line.new ≡ line.old ++ numbers_text elements.now) }
 {
     for element in elements {
         line.push_behind_space(element.index())?;

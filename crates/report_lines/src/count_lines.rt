@@ -1,6 +1,6 @@
 //! The lines on nodes, labels and counts.
 ghost use Rattle.std.specs.Prelude.{◌≡◌, ◌++◌, OnOk};
-ghost use Rattle.report_lines.specs.CountLines.{node_line, label_line, counts_text, counts_of, stats_line, made_line, free_count};
+ghost use Rattle.report_lines.specs.CountLines.{node_line, label_line, counts_text, table_counts, stats_line, made_line, free_count};
 
 use crate::line::Line;
 use scoping::Scoping;
@@ -57,7 +57,7 @@ fn push_numbers(
 
 // Adds how many nodes there are, and what stands in the tables.
 fn push_counts(line: &mut Line, nodes: u32, scoping: &Scoping) -> Result<(), AllocError>
-    ensures { OnOk result (line.new ≡ line.old ++ counts_of nodes scoping.now) }
+    ensures { OnOk result (line.new ≡ line.old ++ table_counts nodes scoping.now) }
 {
     push_numbers(
         line,

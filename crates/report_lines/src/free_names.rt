@@ -4,7 +4,7 @@ ghost use Rattle.std.specs.Str.{chars, encode_utf8_all};
 ghost use Rattle.scoping_rows.specs.Names.{name_of};
 ghost use Rattle.semantic_syntax.specs.Reading.{reference_of};
 ghost use Rattle.report_lines.specs.TableLines.{reference_name};
-ghost use Rattle.report_lines.specs.FreeNames.{name_shown, named_once, named_each, named_by, free_names};
+ghost use Rattle.report_lines.specs.FreeNames.{name_shown, named_once, named_each, names_with_free, free_names};
 
 use scoping::Scoping;
 use semantic_syntax::{Ident, ReferenceId};

@@ -3,7 +3,7 @@ ghost use Rattle.std.specs.Prelude.{ℕ, ◌≡◌, ◌<◌, ◌++◌, [], OnOk,
 ghost use Rattle.std.specs.List.{list_all};
 ghost use Rattle.report_ends.specs.Offers.{OffersPiece};
 ghost use Rattle.report_ends.specs.Streams.{Writes};
-ghost use Rattle.report_lines.specs.Pieces.{quoted, is_plain, two_digits, number_or_dash, behind_space, span_text};
+ghost use Rattle.report_lines.specs.Pieces.{quoted, is_plain_byte, two_digits, number_or_dash, behind_space, span_text};
 
 use itoa::Buffer;
 use report_ends::{ReportError, Sink, write_whole};
@@ -31,7 +31,7 @@ impl Model for Line {
 // Whether a text stands in a JSON string as it is. It reads the whole text, since names are short and mostly plain, and
 // no byte costs a branch then.
 fn is_plain(text: &str) -> bool
-    ensures { result ≡ list_all is_plain text.now }
+    ensures { result ≡ list_all is_plain_byte text.now }
 {
     let mut plain = true;
     for byte in text.as_bytes() {
@@ -191,7 +191,7 @@ impl Line {
     #[inline(always)]
     #[tactic(auto, using(crate::proofs::Quoting::quoted_plain))]
     fn push_plain(&mut self, text: &str) -> Result<(), AllocError>
-        requires { list_all is_plain text.now ≡ true }
+        requires { list_all is_plain_byte text.now ≡ true }
         ensures { OnOk result (self.new ≡ self.old ++ quoted text.now) }
     {
         self.push("\"")?;

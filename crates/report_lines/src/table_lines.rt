@@ -1,6 +1,6 @@
 //! The lines on scopes, symbols and references.
 ghost use Rattle.std.specs.Prelude.{ℕ, ◌≡◌, ◌++◌, OnOk};
-ghost use Rattle.report_lines.specs.Pieces.{numbers, scope_flags, symbol_flags, reference_flags};
+ghost use Rattle.report_lines.specs.Pieces.{numbers_text, scope_flags_text, symbol_flags_text, reference_flags};
 ghost use Rattle.report_lines.specs.TableLines.{scope_line, bind_text, symbol_text, declaration_text, redeclaration_line, uses_line, pure_line, reference_text, use_text, free_text};
 
 use crate::flags::push_flags;
@@ -12,13 +12,13 @@ use semantic_syntax::{
 use std::alloc::AllocError;
 
 fn push_scope_flags(line: &mut Line, flags: ScopeFlags) -> Result<(), AllocError>
-    ensures { OnOk result (line.new ≡ line.old ++ scope_flags flags) }
+    ensures { OnOk result (line.new ≡ line.old ++ scope_flags_text flags) }
 {
     push_flags(line, flags)
 }
 
 fn push_symbol_flags(line: &mut Line, flags: SymbolFlags) -> Result<(), AllocError>
-    ensures { OnOk result (line.new ≡ line.old ++ symbol_flags flags) }
+    ensures { OnOk result (line.new ≡ line.old ++ symbol_flags_text flags) }
 {
     push_flags(line, flags)
 }
@@ -120,7 +120,7 @@ pub fn make_redeclaration_line(
 
 // Adds a space and a number for each reference.
 fn push_references(line: &mut Line, references: &[ReferenceId]) -> Result<(), AllocError>
-    ensures { OnOk result (line.new ≡ line.old ++ numbers references.now) }
+    ensures { OnOk result (line.new ≡ line.old ++ numbers_text references.now) }
 {
     for reference in references {
         line.push_behind_space(reference.index())?;

@@ -2,7 +2,7 @@
 ghost use Rattle.std.specs.Prelude.{◌≡◌, ◌<◌, ◌≤◌, ◌++◌, length};
 ghost use Rattle.std.specs.List.{flat_map};
 ghost use Rattle.class_table.specs.Lists.{elements_in, uses_in};
-ghost use Rattle.class_table.specs.Outward.{parent_in};
+ghost use Rattle.class_table.specs.Outward.{parent_class};
 ghost use Rattle.class_table.specs.Seen.{element_seen, use_seen};
 ghost use Rattle.report_ends.specs.Streams.{WritesLines, numbered_text};
 ghost use Rattle.report_lines.specs.ClassLines.{class_line, element_line, private_use_line, class_lines, all_class_lines};
@@ -17,7 +17,7 @@ use std::collections::BTreeMap;
 
 /// The class around a class, if it stands inside one.
 fn parent_in(parents: &BTreeMap<ClassId, ClassId>, class: ClassId) -> Option<ClassId>
-    ensures { result ≡ parent_in parents.now.entries class }
+    ensures { result ≡ parent_class parents.now.entries class }
 {
     parents.get(&class).copied()
 }
@@ -30,7 +30,7 @@ fn write_class_line<K: Sink>(
     out: &mut K,
 ) -> Result<(), ReportError>
     ensures { WritesLines K.held K.faults K.Offered IsRow out.old out.new
-        (class_line class node (parent_in classes.now.parents class)) result }
+        (class_line class node (parent_class classes.now.parents class)) result }
 {
     let parent = parent_in(&classes.parent_ids, class);
     make_class_line(line, class, node, parent)?;

@@ -6,7 +6,7 @@ use Rattle.std.proofs.lemmas.List.{length-set, get_or-set_same, get_or_default}
 use Rattle.semantic_syntax.specs.Tables.{Name}
 use Rattle.scoping_rows.specs.Names.{name_at}
 use Rattle.scoping_rows.specs.Row.{Row, symbol_of_row, no_row, row_named, row_moved}
-use Rattle.semantic_syntax.specs.Writing.{with_name, with_home}
+use Rattle.semantic_syntax.specs.Writing.{with_symbol_name, with_home}
 use Rattle.std.specs.Map.{values_of}
 use Rattle.scoping_rows.specs.Flat.{Numbered}
 use Rattle.scoping.specs.View.{IsBoundWithin}
@@ -29,11 +29,11 @@ module _ (names : List Name) where
   named_named count n l (i ∷ ids) ys h = named_named count n l ids (row_named n ys i) (every-set (λ (y : Row). y.name < count) _ ys i h l)
 
   pub shown_named : (n : ℕ) (name : Name) → name_at names n ≡ name → (ids : List ℕ) (ys : List Row) → AreRows ys ids
-      → map (symbol_of_row names) (fold (row_named n) ys ids) ≡ fold (with_name name) (map (symbol_of_row names) ys) ids
+      → map (symbol_of_row names) (fold (row_named n) ys ids) ≡ fold (with_symbol_name name) (map (symbol_of_row names) ys) ids
   shown_named n name is [] ys h = refl
   shown_named n name is (i ∷ ids) ys h =
       shown_named n name is ids (row_named n ys i) (still ys (row_named n ys i) ids (length-set ys i _) h.1)
-      ∙ ap (λ x. fold (with_name name) x ids)
+      ∙ ap (λ x. fold (with_symbol_name name) x ids)
       (symbol_changed names ys i i (get_or ys i no_row) (record (get_or ys i no_row) { name = n }) refl h.0 (read ys i h.0) (λ y. record y { name = name })
       (λ j. record (symbol_of_row names (get_or ys i no_row)) { name = is j }))
     where

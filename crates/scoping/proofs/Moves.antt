@@ -9,7 +9,7 @@ use Rattle.semantic_syntax.specs.Tables.{Name, Tables}
 use Rattle.scoping_rows.specs.Flat.{Numbered, put, cut, moved_number, renumbered}
 use Rattle.scoping_rows.specs.Names.{named, IsUnknown, IsNumberOf}
 use Rattle.scoping.specs.View.{IsBoundWithin}
-use Rattle.semantic_syntax.specs.Writing.{bound, unbound, moved, renamed}
+use Rattle.semantic_syntax.specs.Writing.{bound, unbound, name_moved, binding_renamed}
 use Rattle.scoping.proofs.Shown.{AreBound, bound_at, bound_insert, bound_remove, shown_insert, shown_remove, shown_lookup, shown_lookup_unknown}
 
 value_within : (names symbols n y : ℕ) (b : Numbered) → AllByRecursion (IsBoundWithin names symbols) b → lookup (nat_eq n) b ≡ Some y → y < symbols
@@ -49,10 +49,10 @@ module _ (names : List Name) (symbols : ℕ) (bs : List Numbered) (h : AreBound 
       unbound_is = ap (λ b. record t { bindings = b }) (shown_remove names symbols bs h s within name n number)
 
   module _ (from to : ℕ) (first : from < length bs) (second : to < length bs) (name : Name) where
-    pub moved_unknown : IsUnknown names name → moved (showing bs) from to name ≡ showing bs
+    pub moved_unknown : IsUnknown names name → name_moved (showing bs) from to name ≡ showing bs
     moved_unknown unknown = rw (shown_lookup_unknown names symbols bs h from first name unknown) refl
 
-    pub moved_is : (n : ℕ) → IsNumberOf names name n → showing (moved_number bs from to n) ≡ moved (showing bs) from to name
+    pub moved_is : (n : ℕ) → IsNumberOf names name n → showing (moved_number bs from to n) ≡ name_moved (showing bs) from to name
     moved_is n number = by (lookup (nat_eq n) (get_or bs from [])) refl
       where
         by : (o : Option ℕ) → lookup (nat_eq n) (get_or bs from []) ≡ o
@@ -70,20 +70,20 @@ module _ (names : List Name) (symbols : ℕ) (bs : List Numbered) (h : AreBound 
     tells : (b : Bool) → (n == m) ≡ b → bytes_eq new old ≡ b
     tells b e = ap (bytes_eq new) (sym first.named) ∙ second.only m first.within ∙ e
 
-    rename_same : (n == m) ≡ true → renamed (showing bs) s y old new ≡ showing bs
+    rename_same : (n == m) ≡ true → binding_renamed (showing bs) s y old new ≡ showing bs
     rename_same same = rw (tells true same) refl
 
-    rename_is : (n == m) ≡ false → showing (put (cut bs s m) s n y) ≡ renamed (showing bs) s y old new
+    rename_is : (n == m) ≡ false → showing (put (cut bs s m) s n y) ≡ binding_renamed (showing bs) s y old new
     rename_is apart =
         let inner = bound_remove (length names) symbols s m bs h in
         rw (tells false apart)
         (ap (λ b. record t { bindings = b }) (shown_insert names symbols (cut bs s m) inner s (rw length-set within) new n second y)
         ∙ ap (λ u. bound u s new y) (unbound_is s within old m first))
 
-    pub renumbered_is : showing (renumbered bs s m n y) ≡ renamed (showing bs) s y old new
+    pub renumbered_is : showing (renumbered bs s m n y) ≡ binding_renamed (showing bs) s y old new
     renumbered_is = by (n == m) refl
       where
-        by : (b : Bool) → (n == m) ≡ b → showing (if b then bs else put (cut bs s m) s n y) ≡ renamed (showing bs) s y old new
+        by : (b : Bool) → (n == m) ≡ b → showing (if b then bs else put (cut bs s m) s n y) ≡ binding_renamed (showing bs) s y old new
         by true e = sym (rename_same e)
         by false e = rename_is e
 

@@ -5,9 +5,9 @@ use Rattle.semantic_syntax.specs.declared.references.Redeclaration.{Redeclaratio
 use Rattle.semantic_syntax.specs.Tables.{Name}
 use Rattle.scoping_rows.specs.Row.{Row, symbol_of_row}
 use Rattle.scoping_rows.specs.Redeclared.{elsewhere, row_declared_by, row_without_declaration, row_or_stays}
-use Rattle.scoping.specs.Redeclared.{declared_by, without_declaration, or_stays}
+use Rattle.scoping.specs.Redeclared.{symbol_left, without_declaration, or_stays}
 
-shown_declared : (names : List Name) (y : Row) (ds : List Redeclaration) → symbol_of_row names (row_declared_by y ds) ≡ declared_by (symbol_of_row names y) ds
+shown_declared : (names : List Name) (y : Row) (ds : List Redeclaration) → symbol_of_row names (row_declared_by y ds) ≡ symbol_left (symbol_of_row names y) ds
 shown_declared names y [] = refl
 shown_declared names y (d ∷ ds) = refl
 

@@ -9,7 +9,7 @@ use Rattle.std.proofs.lemmas.Bool.{eqb-true, eqb-false, eq-eqb, false_from_ne_tr
 use Rattle.std.proofs.lemmas.List.Elements.{filter_map-append}
 use Rattle.indexmap.specs.IndexMap.{insert_entry, shift_remove_entry}
 use Rattle.scoping_rows.specs.Kept.{rows_without_types}
-use Rattle.scoping_rows.specs.Flat.{Numbered, SlotList, filled, holds, StandsAt}
+use Rattle.scoping_rows.specs.Flat.{Numbered, SlotList, filled, slot_binds, StandsAt}
 
 suc_eq : (i j : ℕ) → (i == j) ≡ (suc i == suc j)
 suc_eq i j = by (i == j) refl
@@ -35,10 +35,10 @@ behind : (x : Option (ℕ × ℕ)) (xs : SlotList) (n : ℕ) → StandsAt (x ∷
 behind x xs n h i = sym (suc_zero i) ∙ h (suc i)
 
 -- the slot at the place binds the number
-pub at_position : (xs : SlotList) (n i : ℕ) → StandsAt xs n (Some i) → holds n (get_or xs i None) ≡ true
+pub at_position : (xs : SlotList) (n i : ℕ) → StandsAt xs n (Some i) → slot_binds n (get_or xs i None) ≡ true
 at_position xs n i h = sym (h i) ∙ eq-eqb i i refl
 
-lookup_skips : (n : ℕ) (x : Option (ℕ × ℕ)) (xs : SlotList) → holds n x ≡ false → lookup (nat_eq n) (filled (x ∷ xs)) ≡ lookup (nat_eq n) (filled xs)
+lookup_skips : (n : ℕ) (x : Option (ℕ × ℕ)) (xs : SlotList) → slot_binds n x ≡ false → lookup (nat_eq n) (filled (x ∷ xs)) ≡ lookup (nat_eq n) (filled xs)
 lookup_skips n None xs other = refl
 lookup_skips n (Some b) xs other = rw other refl
 
@@ -50,7 +50,7 @@ lookup_filled n (x ∷ xs) None h = lookup_skips n x xs (sym (h 0)) ∙ lookup_f
 lookup_filled n (x ∷ xs) (Some (suc j)) h = lookup_skips n x xs (sym (h 0) ∙ zero_suc j) ∙ lookup_filled n xs (Some j) (later x xs n j h)
 lookup_filled n (x ∷ xs) (Some zero) h = by x (at_position (x ∷ xs) n zero h)
   where
-    by : (x : Option (ℕ × ℕ)) → holds n x ≡ true → lookup (nat_eq n) (filled (x ∷ xs)) ≡ option_map (λ b. b.1) x
+    by : (x : Option (ℕ × ℕ)) → slot_binds n x ≡ true → lookup (nat_eq n) (filled (x ∷ xs)) ≡ option_map (λ b. b.1) x
     by None e = absurd (cc)
     by (Some b) e = rw e refl
 
@@ -59,12 +59,12 @@ pub filled-fill : (n y i : ℕ) (xs : SlotList) → StandsAt xs n (Some i) → f
 filled-fill n y i [] h = let e = at_position [] n i h in absurd (cc)
 filled-fill n y zero (x ∷ xs) h = by x (at_position (x ∷ xs) n zero h)
   where
-    by : (x : Option (ℕ × ℕ)) → holds n x ≡ true → (n, y) ∷ filled xs ≡ insert_entry nat_eq (filled (x ∷ xs)) n y
+    by : (x : Option (ℕ × ℕ)) → slot_binds n x ≡ true → (n, y) ∷ filled xs ≡ insert_entry nat_eq (filled (x ∷ xs)) n y
     by None e = absurd (cc)
     by (Some b) e = rw e (ap (λ k. (k, y) ∷ filled xs) (eqb-true n b.0 e))
 filled-fill n y (suc i) (x ∷ xs) h = by x (sym (h 0) ∙ zero_suc i) (filled-fill n y i xs (later x xs n i h))
   where
-    by : (x : Option (ℕ × ℕ)) → holds n x ≡ false → filled (set xs i (Some (n, y))) ≡ insert_entry nat_eq (filled xs) n y
+    by : (x : Option (ℕ × ℕ)) → slot_binds n x ≡ false → filled (set xs i (Some (n, y))) ≡ insert_entry nat_eq (filled xs) n y
         → cons_option x (filled (set xs i (Some (n, y)))) ≡ insert_entry nat_eq (filled (x ∷ xs)) n y
     by None other rest = rest
     by (Some b) other rest = rw other (ap (λ t. b ∷ t) rest)
@@ -74,12 +74,12 @@ pub filled-clear : (n i : ℕ) (xs : SlotList) → StandsAt xs n (Some i) → fi
 filled-clear n i [] h = let e = at_position [] n i h in absurd (cc)
 filled-clear n zero (x ∷ xs) h = by x (at_position (x ∷ xs) n zero h)
   where
-    by : (x : Option (ℕ × ℕ)) → holds n x ≡ true → filled xs ≡ shift_remove_entry (nat_eq n) (filled (x ∷ xs))
+    by : (x : Option (ℕ × ℕ)) → slot_binds n x ≡ true → filled xs ≡ shift_remove_entry (nat_eq n) (filled (x ∷ xs))
     by None e = absurd (cc)
     by (Some b) e = rw e refl
 filled-clear n (suc i) (x ∷ xs) h = by x (sym (h 0) ∙ zero_suc i) (filled-clear n i xs (later x xs n i h))
   where
-    by : (x : Option (ℕ × ℕ)) → holds n x ≡ false → filled (set xs i None) ≡ shift_remove_entry (nat_eq n) (filled xs)
+    by : (x : Option (ℕ × ℕ)) → slot_binds n x ≡ false → filled (set xs i None) ≡ shift_remove_entry (nat_eq n) (filled xs)
         → cons_option x (filled (set xs i None)) ≡ shift_remove_entry (nat_eq n) (filled (x ∷ xs))
     by None other rest = rest
     by (Some b) other rest = rw other (ap (λ t. b ∷ t) rest)

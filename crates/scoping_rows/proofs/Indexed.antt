@@ -5,17 +5,17 @@ use Rattle.std.proofs.Math.ListN.{set}
 use Rattle.std.proofs.Math.Seq.{map-set_same}
 use Rattle.std.proofs.lemmas.Bool.{eqb-true, eqb-false, eq-eqb, false_from_ne_true}
 use Rattle.std.proofs.lemmas.List.{length-set, get_or-set_same, get_or-set_other, get_or_push, set_at, set-set, get_or_read, get_or-take, map-set, take_more}
-use Rattle.scoping_rows.specs.Flat.{Entries, Numbered, SlotList, key_eq, filled, holds, is_position, StandsAt, HasPositions, HasAllPositions, KeepsElsewhere, Retells, IsRekeyed, hollow}
+use Rattle.scoping_rows.specs.Flat.{Entries, Numbered, SlotList, key_eq, filled, slot_binds, is_position, StandsAt, HasPositions, HasAllPositions, KeepsElsewhere, Retells, IsRekeyed, hollow}
 use Rattle.scoping_rows.proofs.Filled.{at_position}
 
 -- a slot that binds something is there
-pub slot_within : (xs : SlotList) (i n : ℕ) → holds n (get_or xs i None) ≡ true → i < length xs
+pub slot_within : (xs : SlotList) (i n : ℕ) → slot_binds n (get_or xs i None) ≡ true → i < length xs
 slot_within [] i n h = absurd (cc)
 slot_within (x ∷ xs) zero n h = omega arith
 slot_within (x ∷ xs) (suc i) n h = let l = slot_within xs i n h in omega (arith, l)
 
 -- a slot that binds the number binds a symbol to it
-pub slot_of : (n : ℕ) (x : Option (ℕ × ℕ)) → holds n x ≡ true → (y : ℕ) × (x ≡ Some (n, y))
+pub slot_of : (n : ℕ) (x : Option (ℕ × ℕ)) → slot_binds n x ≡ true → (y : ℕ) × (x ≡ Some (n, y))
 slot_of n None h = absurd (cc)
 slot_of n (Some b) h = (b.1, ap (λ k. Some (k, b.1)) (sym (eqb-true n b.0 h)))
 
@@ -42,42 +42,42 @@ module _ (xs : SlotList) (g : ℕ → Option ℕ) (h : Stands xs g) (n : ℕ) wh
   pub stands-clear : (g' : ℕ → Option ℕ) (r : ℕ) → g n ≡ Some r → ((m : ℕ) → g' m ≡ cond (n == m) None (g m)) → Stands (set xs r None) g'
   stands-clear g' r is told m i = ap (is_position i) (told m) ∙ by (n == m) refl (i == r) refl
     where
-      there : holds n (get_or xs r None) ≡ true
+      there : slot_binds n (get_or xs r None) ≡ true
       there = at_position xs n r (subst (StandsAt xs n) is (h n))
 
-      by : (b : Bool) → (n == m) ≡ b → (d : Bool) → (i == r) ≡ d → is_position i (cond b None (g m)) ≡ holds m (get_or (set xs r None) i None)
-      by true same true here = sym (ap (λ k. holds m (get_or (set xs r None) k None)) (eqb-true i r here) ∙ ap (holds m) (cleared xs r))
+      by : (b : Bool) → (n == m) ≡ b → (d : Bool) → (i == r) ≡ d → is_position i (cond b None (g m)) ≡ slot_binds m (get_or (set xs r None) i None)
+      by true same true here = sym (ap (λ k. slot_binds m (get_or (set xs r None) k None)) (eqb-true i r here) ∙ ap (slot_binds m) (cleared xs r))
       by true same false apart =
-          sym (ap (holds m) (get_or-set_other xs r i None None (λ e. eqb-false i r apart e))
-          ∙ ap (λ k. holds k (get_or xs i None)) (sym (eqb-true n m same)) ∙ sym (h n i) ∙ ap (is_position i) is ∙ apart)
+          sym (ap (slot_binds m) (get_or-set_other xs r i None None (λ e. eqb-false i r apart e))
+          ∙ ap (λ k. slot_binds k (get_or xs i None)) (sym (eqb-true n m same)) ∙ sym (h n i) ∙ ap (is_position i) is ∙ apart)
       by false other true here =
           let s = slot_of n (get_or xs r None) there in
-          h m i ∙ ap (λ k. holds m (get_or xs k None)) (eqb-true i r here) ∙ ap (holds m) s.1 ∙ flip n m other
-          ∙ sym (ap (λ k. holds m (get_or (set xs r None) k None)) (eqb-true i r here) ∙ ap (holds m) (cleared xs r))
-      by false other false apart = h m i ∙ sym (ap (holds m) (get_or-set_other xs r i None None (λ e. eqb-false i r apart e)))
+          h m i ∙ ap (λ k. slot_binds m (get_or xs k None)) (eqb-true i r here) ∙ ap (slot_binds m) s.1 ∙ flip n m other
+          ∙ sym (ap (λ k. slot_binds m (get_or (set xs r None) k None)) (eqb-true i r here) ∙ ap (slot_binds m) (cleared xs r))
+      by false other false apart = h m i ∙ sym (ap (slot_binds m) (get_or-set_other xs r i None None (λ e. eqb-false i r apart e)))
 
   -- the number is bound in an empty slot
   pub stands-fill : (g' : ℕ → Option ℕ) (w y : ℕ) → w < length xs → get_or xs w None ≡ None → g n ≡ None → ((m : ℕ) → g' m ≡ cond (n == m) (Some w) (g m)) → Stands (set xs w (Some (n, y))) g'
   stands-fill g' w y within free none told m i = ap (is_position i) (told m) ∙ by (n == m) refl (i == w) refl
     where
-      now : holds m (get_or (set xs w (Some (n, y))) w None) ≡ (m == n)
-      now = ap (holds m) (get_or-set_same xs w (Some (n, y)) None within)
+      now : slot_binds m (get_or (set xs w (Some (n, y))) w None) ≡ (m == n)
+      now = ap (slot_binds m) (get_or-set_same xs w (Some (n, y)) None within)
 
-      by : (b : Bool) → (n == m) ≡ b → (d : Bool) → (i == w) ≡ d → is_position i (cond b (Some w) (g m)) ≡ holds m (get_or (set xs w (Some (n, y))) i None)
+      by : (b : Bool) → (n == m) ≡ b → (d : Bool) → (i == w) ≡ d → is_position i (cond b (Some w) (g m)) ≡ slot_binds m (get_or (set xs w (Some (n, y))) i None)
       by true same true here =
-          here ∙ sym (ap (λ k. holds m (get_or (set xs w (Some (n, y))) k None)) (eqb-true i w here) ∙ now ∙ eq-eqb m n (sym (eqb-true n m same)))
+          here ∙ sym (ap (λ k. slot_binds m (get_or (set xs w (Some (n, y))) k None)) (eqb-true i w here) ∙ now ∙ eq-eqb m n (sym (eqb-true n m same)))
       by true same false apart =
-          apart ∙ sym (ap (holds m) (get_or-set_other xs w i (Some (n, y)) None (λ e. eqb-false i w apart e))
-          ∙ ap (λ k. holds k (get_or xs i None)) (sym (eqb-true n m same)) ∙ sym (h n i) ∙ ap (is_position i) none)
+          apart ∙ sym (ap (slot_binds m) (get_or-set_other xs w i (Some (n, y)) None (λ e. eqb-false i w apart e))
+          ∙ ap (λ k. slot_binds k (get_or xs i None)) (sym (eqb-true n m same)) ∙ sym (h n i) ∙ ap (is_position i) none)
       by false other true here =
-          h m i ∙ ap (λ k. holds m (get_or xs k None)) (eqb-true i w here) ∙ ap (holds m) free
-          ∙ sym (ap (λ k. holds m (get_or (set xs w (Some (n, y))) k None)) (eqb-true i w here) ∙ now ∙ flip n m other)
-      by false other false apart = h m i ∙ sym (ap (holds m) (get_or-set_other xs w i (Some (n, y)) None (λ e. eqb-false i w apart e)))
+          h m i ∙ ap (λ k. slot_binds m (get_or xs k None)) (eqb-true i w here) ∙ ap (slot_binds m) free
+          ∙ sym (ap (λ k. slot_binds m (get_or (set xs w (Some (n, y))) k None)) (eqb-true i w here) ∙ now ∙ flip n m other)
+      by false other false apart = h m i ∙ sym (ap (slot_binds m) (get_or-set_other xs w i (Some (n, y)) None (λ e. eqb-false i w apart e)))
 
 module _ (xs : SlotList) (g : ℕ → Option ℕ) (h : Stands xs g) where
   -- an empty slot more
   pub stands-more : Stands (xs ++ None ∷ []) g
-  stands-more m i = h m i ∙ sym (ap (holds m) (one_more xs i))
+  stands-more m i = h m i ∙ sym (ap (slot_binds m) (one_more xs i))
 
   -- where a number is bound there is a slot
   pub position_within : (n r : ℕ) → g n ≡ Some r → r < length xs
@@ -85,7 +85,7 @@ module _ (xs : SlotList) (g : ℕ → Option ℕ) (h : Stands xs g) where
 
   -- the same slots, as they are read
   pub stands-same : (ys : SlotList) → ((i : ℕ) → get_or ys i None ≡ get_or xs i None) → Stands ys g
-  stands-same ys same m i = h m i ∙ sym (ap (holds m) (same i))
+  stands-same ys same m i = h m i ∙ sym (ap (slot_binds m) (same i))
 
   module _ (n : ℕ) where
     -- the number moves to an empty slot
@@ -133,13 +133,13 @@ module _ (es es' : Entries) (rows : List SlotList) (h : HasAllPositions es rows)
   pub all_positions : HasAllPositions es' (set rows s xs)
   all_positions t n i = by (s == t) refl
     where
-      by : (b : Bool) → (s == t) ≡ b → is_position i (lookup (key_eq (t, n)) es') ≡ holds n (get_or (get_or (set rows s xs) t []) i None)
+      by : (b : Bool) → (s == t) ≡ b → is_position i (lookup (key_eq (t, n)) es') ≡ slot_binds n (get_or (get_or (set rows s xs) t []) i None)
       by true same =
-          subst (λ k. is_position i (lookup (key_eq (k, n)) es') ≡ holds n (get_or (get_or (set rows s xs) k []) i None)) (eqb-true s t same)
-          (now n i ∙ sym (ap (λ r. holds n (get_or r i None)) (get_or-set_same rows s xs [] within)))
+          subst (λ k. is_position i (lookup (key_eq (k, n)) es') ≡ slot_binds n (get_or (get_or (set rows s xs) k []) i None)) (eqb-true s t same)
+          (now n i ∙ sym (ap (λ r. slot_binds n (get_or r i None)) (get_or-set_same rows s xs [] within)))
       by false apart =
           ap (is_position i) (others t n apart) ∙ h t n i
-          ∙ sym (ap (λ r. holds n (get_or r i None)) (get_or-set_other rows s t xs [] (λ e. eqb-false s t apart (sym e))))
+          ∙ sym (ap (λ r. slot_binds n (get_or r i None)) (get_or-set_other rows s t xs [] (λ e. eqb-false s t apart (sym e))))
 
 -- what one of the scopes binds
 pub shown_row : (rows : List SlotList) (s : ℕ) → get_or (map filled rows) s [] ≡ filled (get_or rows s [])
@@ -166,7 +166,7 @@ row_read rows s i row at within read = get_or_read rows s row within (read ∙ a
 
 -- a number that has a slot stands there
 pub position_told : (xs : SlotList) (g : ℕ → Option ℕ) → Stands xs g → (n y r : ℕ) → get_or xs r None ≡ Some (n, y) → g n ≡ Some r
-position_told xs g h n y r is = by (g n) (h n r ∙ ap (holds n) is ∙ eq-eqb n n refl)
+position_told xs g h n y r is = by (g n) (h n r ∙ ap (slot_binds n) is ∙ eq-eqb n n refl)
   where
     by : (o : Option ℕ) → is_position r o ≡ true → o ≡ Some r
     by None e = absurd (cc)
@@ -244,7 +244,7 @@ module _ (old : Entries) (from to : ℕ) (apart : (from == to) ≡ false) (xs : 
               let there = at_position (take k xs) n j (subst (StandsAt (take k xs) n) e (r.target n)) in
               let inside = slot_within (take k xs) j n there in
               let small : j < k = omega (arith, length-take k xs) in
-              let here : holds n (get_or xs j None) ≡ true = sym (ap (holds n) (get_or-take k xs j None small)) ∙ there in
+              let here : slot_binds n (get_or xs j None) ≡ true = sym (ap (slot_binds n) (get_or-take k xs j None small)) ∙ there in
               let at = position_told xs _ first n y k is in
               let same : j ≡ k = eqb-true j k (ap (is_position j) (sym at) ∙ first n j ∙ here) in
               absurd (omega (arith, same, small))
@@ -291,7 +291,7 @@ pub taken_positions : (es es' : Entries) (rows : List SlotList) (from to : ℕ) 
 taken_positions es es' rows from to xs source target apart all first second others t n i = by (to == t) refl (from == t) refl
   where
     shows : SlotList → Type 0
-    shows r = is_position i (lookup (key_eq (t, n)) es') ≡ holds n (get_or r i None)
+    shows r = is_position i (lookup (key_eq (t, n)) es') ≡ slot_binds n (get_or r i None)
 
     past : (to == t) ≡ false → get_or (set rows from []) t [] ≡ get_or (set (set rows from []) to xs) t []
     past e = sym (get_or-set_other (set rows from []) to t xs [] (λ q. eqb-false to t e (sym q)))
@@ -300,7 +300,7 @@ taken_positions es es' rows from to xs source target apart all first second othe
     by true e d q =
         let at = eqb-true to t e in
         subst shows (sym (ap (λ k. get_or (set (set rows from []) to xs) k []) (sym at) ∙ get_or-set_same (set rows from []) to xs [] (rw length-set target)))
-        (subst (λ k. is_position i (lookup (key_eq (k, n)) es') ≡ holds n (get_or xs i None)) at (second n i))
+        (subst (λ k. is_position i (lookup (key_eq (k, n)) es') ≡ slot_binds n (get_or xs i None)) at (second n i))
     by false e true q =
         let at = eqb-true from t q in
         subst shows (sym (ap (λ k. get_or (set rows from []) k []) (sym at) ∙ get_or-set_same rows from [] [] source) ∙ past e)

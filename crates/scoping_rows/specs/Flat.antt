@@ -29,8 +29,8 @@ abbrev pub filled : SlotList → Numbered
 filled xs = filter_map (λ x. x) xs
 
 -- whether the slot binds the number
-abbrev pub holds : ℕ → Option (ℕ × ℕ) → Bool
-holds n x = option_map_or (λ b. n == b.0) x false
+abbrev pub slot_binds : ℕ → Option (ℕ × ℕ) → Bool
+slot_binds n x = option_map_or (λ b. n == b.0) x false
 
 -- whether it is the place, if any
 abbrev pub is_position : ℕ → Option ℕ → Bool
@@ -38,7 +38,7 @@ is_position i position = option_map_or (λ j. i == j) position false
 
 -- the slot at the place, if any, binds the number, and no other does
 abbrev pub StandsAt : SlotList → ℕ → Option ℕ → Type 0
-StandsAt xs n position = (i : ℕ) → is_position i position ≡ holds n (slice_index_or xs i None)
+StandsAt xs n position = (i : ℕ) → is_position i position ≡ slot_binds n (slice_index_or xs i None)
 
 -- the entries tell for each number where the scope binds it, if it does
 abbrev pub HasPositions : Entries → ℕ → SlotList → Type 0

@@ -6,7 +6,7 @@ use Rattle.semantic_tree.specs.Forest.{Forest, count}
 use Rattle.semantic_tree.specs.Tree.{Tree}
 use Rattle.semantic_model.specs.Inside.{scopes_in}
 use Rattle.semantic_tree.specs.KindCounts.{how_many}
-use Rattle.walk_model.specs.Counted.{is_symbol, is_reference}
+use Rattle.walk_model.specs.Counted.{declares_symbol, is_reference}
 use Rattle.semantic_walk.specs.declared.settings.Room.{Room}
 use Rattle.semantic.specs.declared.builder.SemanticBuilder.{SemanticBuilder}
 use Rattle.semantic_queries.specs.declared.stats.Stats.{Stats}
@@ -14,7 +14,7 @@ use Rattle.semantic_queries.specs.Tally.{increased}
 
 -- the counts of a forest
 abbrev pub counts_of : Forest → Stats
-counts_of f = record { nodes = count f; scopes = scopes_in f; symbols = how_many is_symbol f; references = how_many is_reference f }
+counts_of f = record { nodes = count f; scopes = scopes_in f; symbols = how_many declares_symbol f; references = how_many is_reference f }
 
 -- scopes, symbols and references with so many thousandths more
 abbrev pub with_excess : ℕ → Stats → Stats

@@ -1,6 +1,6 @@
 //! Laws over analyses of one program with other settings.
 ghost use Rattle.std.specs.Prelude.{◌≡◌, Bool, false, List, map};
-ghost use Rattle.check_model.specs.DiagnosticsOf.{told};
+ghost use Rattle.check_model.specs.DiagnosticsOf.{conflict_diagnostic};
 ghost use Rattle.semantic_diagnostics.specs.declared.diagnostic.Diagnostic.{Diagnostic};
 ghost use Rattle.semantic_syntax.specs.Tables.{Tables};
 ghost use Rattle.semantic_tree.specs.Tree.{Tree};
@@ -18,5 +18,5 @@ pub fn early_errors_change_no_table()
     ensures diagnostics { (checks : Bool) (p : Tree) (t u : Tables) (ds es : List Diagnostic)
         → IsAnalysis checks p t ds → IsAnalysis checks p u es → ds ≡ es }
     ensures unchecked { (p : Tree) (t : Tables) (ds : List Diagnostic) → IsAnalysis false p t ds
-        → ds ≡ map told (run start (events (steps p))).conflicts }
+        → ds ≡ map conflict_diagnostic (run start (events (steps p))).conflicts }
 {}

@@ -7,13 +7,13 @@ use Rattle.semantic_diagnostics.specs.declared.contexts.ReservedKeywordContext.T
 use Rattle.semantic_diagnostics.specs.declared.contexts.UnexpectedIdentifierAssignContext.{UnexpectedIdentifierAssignContext}
 use Rattle.semantic_diagnostics.specs.declared.contexts.UnexpectedIdentifierAssignContext.TheVariants as assigned
 use Rattle.semantic_diagnostics.specs.declared.diagnostic.Diagnostic.{Diagnostic}
-use Rattle.semantic_diagnostics.specs.Parts.{plain, helped, noted, coded, redeclared}
+use Rattle.semantic_diagnostics.specs.Parts.{plain, helped, noted_with, coded, redeclaration_message}
 
 abbrev pub redeclaration : List ℕ → Span → Span → Diagnostic
-redeclaration name first second = redeclared (concat (codes "Identifier `" ∷ name ∷ codes "` has already been declared" ∷ [])) (codes "`") name first second
+redeclaration name first second = redeclaration_message (concat (codes "Identifier `" ∷ name ∷ codes "` has already been declared" ∷ [])) (codes "`") name first second
 
 abbrev pub static_and_instance_private_identifier : List ℕ → Span → Span → Diagnostic
-static_and_instance_private_identifier name first second = coded (codes "TS(2804)") (redeclared (concat (codes "Duplicate identifier `#" ∷ name ∷ codes "`. Static and instance elements cannot share the same private name." ∷ [])) (codes "`#") name first second)
+static_and_instance_private_identifier name first second = coded (codes "TS(2804)") (redeclaration_message (concat (codes "Duplicate identifier `#" ∷ name ∷ codes "`. Static and instance elements cannot share the same private name." ∷ [])) (codes "`#") name first second)
 
 abbrev pub undefined_export : List ℕ → Span → Diagnostic
 undefined_export name span = plain (concat (codes "Export '" ∷ name ∷ codes "' is not defined" ∷ [])) span
@@ -35,7 +35,7 @@ reserved_keyword_note reserved.Module = codes "Modules are always strict mode co
 reserved_keyword_note reserved.ModuleAwait = codes "The identifier `await` is reserved in module code"
 
 abbrev pub reserved_keyword : List ℕ → Span → ReservedKeywordContext → Diagnostic
-reserved_keyword name span context = noted (reserved_keyword_note context) (plain (concat (codes "The keyword '" ∷ name ∷ codes "' is reserved" ∷ [])) span)
+reserved_keyword name span context = noted_with (reserved_keyword_note context) (plain (concat (codes "The keyword '" ∷ name ∷ codes "' is reserved" ∷ [])) span)
 
 -- why it is so
 abbrev pub unexpected_identifier_assign_note : UnexpectedIdentifierAssignContext → List ℕ
@@ -44,7 +44,7 @@ unexpected_identifier_assign_note assigned.Class = codes "Classes are always str
 unexpected_identifier_assign_note assigned.Module = codes "Modules are always strict mode code"
 
 abbrev pub unexpected_identifier_assign : List ℕ → Span → UnexpectedIdentifierAssignContext → Diagnostic
-unexpected_identifier_assign name span context = noted (unexpected_identifier_assign_note context) (plain (concat (codes "Cannot assign to '" ∷ name ∷ codes "' in strict mode" ∷ [])) span)
+unexpected_identifier_assign name span context = noted_with (unexpected_identifier_assign_note context) (plain (concat (codes "Cannot assign to '" ∷ name ∷ codes "' in strict mode" ∷ [])) span)
 
 abbrev pub invalid_let_declaration : List ℕ → Span → Diagnostic
 invalid_let_declaration keyword span = plain (concat (codes "`let` cannot be declared as a variable name inside of a `" ∷ keyword ∷ codes "` declaration" ∷ [])) span

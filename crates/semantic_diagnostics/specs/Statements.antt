@@ -3,7 +3,7 @@ use Rattle.std.specs.Prelude.{ℕ, List, [], ◌∷◌, codes}
 use Rattle.std.specs.List.{concat}
 use Rattle.semantic_syntax.specs.declared.spans.Span.{Span}
 use Rattle.semantic_diagnostics.specs.declared.diagnostic.Diagnostic.{Diagnostic}
-use Rattle.semantic_diagnostics.specs.Parts.{said_at, labelled, plain, helped, redeclared}
+use Rattle.semantic_diagnostics.specs.Parts.{said_at, labelled, plain, helped, redeclaration_message}
 
 abbrev pub using_declaration_not_allowed_in_script : Span → Diagnostic
 using_declaration_not_allowed_in_script span = helped (codes "Wrap this code in a block or use a module") (plain (codes "'using' declarations are not allowed at the top level of a script") span)
@@ -33,7 +33,7 @@ abbrev pub invalid_continue : Span → Diagnostic
 invalid_continue span = helped (codes "A `continue` statement can only be used within an enclosing `for`, `while` or `do while` ") (plain (codes "Illegal continue statement: no surrounding iteration statement") span)
 
 abbrev pub label_redeclaration : List ℕ → Span → Span → Diagnostic
-label_redeclaration name first second = redeclared (concat (codes "Label `" ∷ name ∷ codes "` has already been declared" ∷ [])) (codes "`") name first second
+label_redeclaration name first second = redeclaration_message (concat (codes "Label `" ∷ name ∷ codes "` has already been declared" ∷ [])) (codes "`") name first second
 
 abbrev pub unexpected_initializer_in_for_loop_head : List ℕ → Span → Diagnostic
 unexpected_initializer_in_for_loop_head keyword span = plain (concat (keyword ∷ codes " loop variable declaration may not have an initializer" ∷ [])) span

@@ -11,7 +11,7 @@ use std::alloc::{AllocError, Global};
 
 /// A place of which nothing is said.
 pub fn at(span: Span) -> Label
-    ensures { result ≡ parts.at span }
+    ensures { result ≡ parts.bare_label span }
 {
     Label { span, text: None }
 }
@@ -81,7 +81,7 @@ pub fn redeclared(
 ) -> Result<Diagnostic, AllocError>
     requires { IsTrue (is_ascii opening.now) }
     ensures { IfOk result (λ made. made
-        ≡ parts.redeclared message opening.now (chars name.now) first second) }
+        ≡ parts.redeclaration_message message opening.now (chars name.now) first second) }
 {
     let first_text = around(alloc, opening, name, "` has already been declared here")?;
     let second_text = fixed(alloc, "It can not be redeclared here")?;
@@ -117,7 +117,7 @@ impl Diagnostic {
     /// With this note.
     pub(crate) fn with_note(self, alloc: Global, note: &str) -> Result<Diagnostic, AllocError>
         requires { IsTrue (is_ascii note.now) }
-        ensures { IfOk result (λ made. made ≡ parts.noted note.now self) }
+        ensures { IfOk result (λ made. made ≡ parts.noted_with note.now self) }
     {
         let mut made = self;
         made.note = Some(fixed(alloc, note)?);

@@ -27,8 +27,8 @@ holds_kind kinds kind = list_any (λ k. same_kind k kind) kinds
 abbrev pub is_declaration : AstType → List ℕ → Bool
 is_declaration k t = holds_kind declaration_kinds k || same_kind k kind.Function && (bytes_eq t (codes "declaration") || bytes_eq t (codes "ts-declare")) || same_kind k kind.Class && bytes_eq t (codes "declaration")
 
-abbrev pub is_statement : AstType → List ℕ → Bool
-is_statement k t = holds_kind statement_kinds k || is_declaration k t
+abbrev pub is_kind_of_statement : AstType → List ℕ → Bool
+is_kind_of_statement k t = holds_kind statement_kinds k || is_declaration k t
 
 -- an expression; a function or class is one by its text
 abbrev pub is_expression : AstType → List ℕ → Bool
@@ -195,7 +195,7 @@ is_import_equals_target k = same_kind k kind.IdentifierReference || same_kind k 
 
 -- a node of this kind and text is of the class
 abbrev pub is_of : Class → AstType → List ℕ → Bool
-is_of class.Statement k t = is_statement k t
+is_of class.Statement k t = is_kind_of_statement k t
 is_of class.Declaration k t = is_declaration k t
 is_of class.Expression k t = is_expression k t
 is_of class.Type k t = is_type k

@@ -5,7 +5,7 @@ ghost use Rattle.std.specs.Str.{chars};
 ghost use Rattle.std.specs.Prelude.{true};
 ghost use Rattle.std.specs.Str.{bytes_eq};
 ghost use Rattle.semantic_kinds.specs.Ascii.{is_ascii};
-ghost use Rattle.semantic_kinds.specs.Classes.{expression_kinds, type_kinds, declaration_kinds, statement_kinds, holds_kind, is_of, is_statement, is_declaration, is_expression, is_member, is_literal, is_module_name, is_key, is_type_name, is_pattern, is_simple_target, is_target, is_target_or_default, is_signature, is_jsx_child, is_jsx_name, is_for_init, is_loop_left, is_class_element, is_import_clause, is_default_export, is_export_local, is_array_item, is_object_item, is_argument, is_callee, is_chain_element, is_arrow_body, is_target_property, is_jsx_attribute_item, is_jsx_attribute_name, is_jsx_attribute_value, is_jsx_content, is_jsx_object, is_import_qualifier, is_type_literal_value, is_tuple_item, is_rest_item, is_predicate_name, is_query_name, is_enum_member_name, is_namespace_body, is_import_equals_target};
+ghost use Rattle.semantic_kinds.specs.Classes.{expression_kinds, type_kinds, declaration_kinds, statement_kinds, holds_kind, is_of, is_kind_of_statement, is_declaration, is_expression, is_member, is_literal, is_module_name, is_key, is_type_name, is_pattern, is_simple_target, is_target, is_target_or_default, is_signature, is_jsx_child, is_jsx_name, is_for_init, is_loop_left, is_class_element, is_import_clause, is_default_export, is_export_local, is_array_item, is_object_item, is_argument, is_callee, is_chain_element, is_arrow_body, is_target_property, is_jsx_attribute_item, is_jsx_attribute_name, is_jsx_attribute_value, is_jsx_content, is_jsx_object, is_import_qualifier, is_type_literal_value, is_tuple_item, is_rest_item, is_predicate_name, is_query_name, is_enum_member_name, is_namespace_body, is_import_equals_target};
 
 use crate::kind::AstType;
 
@@ -279,7 +279,7 @@ pub fn is_declaration(kind: AstType, text: &str) -> bool
 
 /// Whether a node of this kind and text is a statement.
 pub fn is_statement(kind: AstType, text: &str) -> bool
-    ensures { result ≡ is_statement kind (chars text.now) }
+    ensures { result ≡ is_kind_of_statement kind (chars text.now) }
 {
     is_statement_kind(kind) || is_declaration(kind, text)
 }

@@ -19,15 +19,15 @@ use Rattle.semantic_model.specs.Namespace.{InstanceState, non_instantiated, inst
 use Rattle.semantic_kinds.specs.Classes.{holds_kind}
 
 -- what a row gives to each of its names
-pub record Row : Type 0 where
+pub record BinderRow : Type 0 where
   pub flags : ℕ
   pub excluded : ℕ
   pub how : How
   pub route : Route
 
 -- a name is declared at the node
-abbrev pub declare : Node → Row → Bool → Node → Declaration
-declare node row is_pure name = record {
+abbrev pub declaration_at : Node → BinderRow → Bool → Node → Declaration
+declaration_at node row is_pure name = record {
   naming = record {
     node = node.node_id;
     identifier = name.node_id;
@@ -44,7 +44,7 @@ declare node row is_pure name = record {
 -- the names are declared in the scope where the node stands
 abbrev pub declare_here : Place → ℕ → ℕ → List Node → List Declaration
 declare_here p flags excluded names =
-    map (declare p.node (record { flags = flags; excluded = excluded; how = plain; route = here p.chain }) false) names
+    map (declaration_at p.node (record { flags = flags; excluded = excluded; how = plain; route = here p.chain }) false) names
 
 abbrev pub ids : Node → List Node
 ids node = names_at role.Id node
@@ -74,7 +74,7 @@ lexical_flags declaration =
     cond (is_with_text kind.VariableDeclaration (codes "let") declaration) symbol.BlockScopedVariable.bits (union symbol.BlockScopedVariable.bits symbol.ConstVariable.bits)
 
 -- `var` goes out to the next function, the other kinds stay
-abbrev pub variable_row : Node → List OpenScope → Row
+abbrev pub variable_row : Node → List OpenScope → BinderRow
 variable_row declaration chain =
     if is_with_text kind.VariableDeclaration (codes "var") declaration then record {
       flags = union symbol.FunctionScopedVariable.bits (marked_ambient declaration);
@@ -92,7 +92,7 @@ variable_row declaration chain =
 abbrev pub variables_under : List Node → Place → List Declaration
 variables_under [] p = []
 variables_under (declaration ∷ path) p =
-    map (declare p.node (variable_row declaration p.chain) (is_pure_declarator p.node)) (bound_names p.node)
+    map (declaration_at p.node (variable_row declaration p.chain) (is_pure_declarator p.node)) (bound_names p.node)
 
 -- a function or class as a statement
 abbrev pub is_statement : Node → Bool
@@ -123,16 +123,16 @@ is_block_function p =
     not (is_special p.node) && not (is_typescript p.source_type) && not (is_strict p.chain)
     && not (is_var (innermost p.chain) || is_clause (innermost p.chain))
 
-abbrev pub function_row : Place → Row
+abbrev pub function_row : Place → BinderRow
 function_row p =
     if is_block_function p
     then record { flags = function_flags p.node; excluded = function_excluded p; how = moved; route = outward_past is_var p.chain }
     else record { flags = function_flags p.node; excluded = function_excluded p; how = plain; route = here p.chain }
 
-abbrev pub own_function_row : Place → OpenScope → Row
+abbrev pub own_function_row : Place → OpenScope → BinderRow
 own_function_row p own = record { flags = function_flags p.node; excluded = function_excluded p; how = plain; route = here (own ∷ []) }
 
-abbrev pub class_row : Place → List OpenScope → Row
+abbrev pub class_row : Place → List OpenScope → BinderRow
 class_row p chain = record {
   flags = union symbol.Class.bits (marked_ambient p.node);
   excluded = symbol.ClassExcludes.bits;
@@ -156,7 +156,7 @@ parameters_under (list ∷ path) p =
 abbrev pub catch_names : Place → Node → List Declaration
 catch_names p pattern =
     if is kind.BindingIdentifier pattern
-    then declare p.node (record {
+    then declaration_at p.node (record {
       flags = union symbol.FunctionScopedVariable.bits symbol.CatchVariable.bits;
       excluded = 0;
       how = caught;
@@ -168,8 +168,8 @@ abbrev pub import_flags : Place → ℕ
 import_flags p =
     cond (has mark.TypeOnly p.node || parent_holds (has mark.TypeOnly) p.path) symbol.TypeImport.bits symbol.Import.bits
 
-abbrev pub imports : Place → List Declaration
-imports p = declare_here p (import_flags p) symbol.ImportBindingExcludes.bits (names_at role.Local p.node)
+abbrev pub import_declarations : Place → List Declaration
+import_declarations p = declare_here p (import_flags p) symbol.ImportBindingExcludes.bits (names_at role.Local p.node)
 
 abbrev pub enums : Place → List Declaration
 enums p =
@@ -190,8 +190,8 @@ named_member member id name = record member { text = name.text; span = id.span }
 abbrev pub member_named : Node → Node → List Node
 member_named member id = map (named_member member id) (member_names id)
 
-abbrev pub members : Place → List Declaration
-members p =
+abbrev pub member_declarations : Place → List Declaration
+member_declarations p =
     declare_here p symbol.EnumMember.bits symbol.EnumMemberExcludes.bits (flat_map (member_named p.node) (children_of role.Id p.node.children))
 
 abbrev pub namespace_row : InstanceState → Place → List Declaration
@@ -203,33 +203,33 @@ namespace_row _ p = declare_here p (union symbol.ValueModule.bits (marked_ambien
 abbrev pub type_parameter_route : Place → Route
 type_parameter_route p = cond (parent_holds (is kind.TSInferType) p.path) (outward_to is_conditional p.chain) (here p.chain)
 
-abbrev pub type_parameter_row : Route → Row
+abbrev pub type_parameter_row : Route → BinderRow
 type_parameter_row r = record { flags = symbol.TypeParameter.bits; excluded = symbol.TypeParameterExcludes.bits; how = plain; route = r }
 
 -- what a node declares on entering it
 abbrev pub declared_by : AstType → Place → List Declaration
 declared_by kind.VariableDeclarator p = variables_under p.path p
-declared_by kind.Function p = cond (is_statement p.node) (map (declare p.node (function_row p) (has mark.Pure p.node)) (ids p.node)) []
-declared_by kind.Class p = cond (is_statement p.node) (map (declare p.node (class_row p p.chain) false) (ids p.node)) []
+declared_by kind.Function p = cond (is_statement p.node) (map (declaration_at p.node (function_row p) (has mark.Pure p.node)) (ids p.node)) []
+declared_by kind.Class p = cond (is_statement p.node) (map (declaration_at p.node (class_row p p.chain) false) (ids p.node)) []
 declared_by kind.FormalParameter p = parameters_under p.path p
 declared_by kind.FormalParameterRest p = parameters_under p.path p
 declared_by kind.BindingRestElement p =
     cond (parent_holds (is kind.FormalParameters) p.path)
     (declare_here p symbol.FunctionScopedVariable.bits (union symbol.FunctionScopedVariableExcludes.bits symbol.FunctionScopedVariable.bits) (bound_names p.node)) []
 declared_by kind.CatchParameter p = flat_map (catch_names p) (children_of role.Pattern p.node.children)
-declared_by kind.ImportSpecifier p = imports p
-declared_by kind.ImportDefaultSpecifier p = imports p
-declared_by kind.ImportNamespaceSpecifier p = imports p
+declared_by kind.ImportSpecifier p = import_declarations p
+declared_by kind.ImportDefaultSpecifier p = import_declarations p
+declared_by kind.ImportNamespaceSpecifier p = import_declarations p
 declared_by kind.TSImportEqualsDeclaration p = declare_here p symbol.Import.bits symbol.ImportBindingExcludes.bits (ids p.node)
 declared_by kind.TSTypeAliasDeclaration p =
     declare_here p (union symbol.TypeAlias.bits (marked_ambient p.node)) symbol.TypeAliasExcludes.bits (ids p.node)
 declared_by kind.TSInterfaceDeclaration p =
     declare_here p (union symbol.Interface.bits (marked_ambient p.node)) symbol.InterfaceExcludes.bits (ids p.node)
 declared_by kind.TSEnumDeclaration p = enums p
-declared_by kind.TSEnumMember p = members p
+declared_by kind.TSEnumMember p = member_declarations p
 declared_by kind.TSNamespaceDeclaration p = namespace_row (instance_state p.node p.path (nodes_around p.node p.path)) p
 declared_by kind.TSTypeParameter p =
-    map (declare p.node (type_parameter_row (type_parameter_route p)) false) (names_at role.Name p.node)
+    map (declaration_at p.node (type_parameter_row (type_parameter_route p)) false) (names_at role.Name p.node)
 declared_by _ p = []
 
 abbrev pub declared_on_entering : Place → List Declaration
@@ -237,10 +237,10 @@ declared_on_entering p = declared_by p.node.kind p
 
 -- what a node declares in its own scope, once that opens
 abbrev pub declared_inside : AstType → Place → OpenScope → List Declaration
-declared_inside kind.Function p own = cond (is_statement p.node) [] (map (declare p.node (own_function_row p own) (has mark.Pure p.node)) (ids p.node))
-declared_inside kind.Class p own = cond (is_statement p.node) [] (map (declare p.node (class_row p (own ∷ [])) false) (ids p.node))
+declared_inside kind.Function p own = cond (is_statement p.node) [] (map (declaration_at p.node (own_function_row p own) (has mark.Pure p.node)) (ids p.node))
+declared_inside kind.Class p own = cond (is_statement p.node) [] (map (declaration_at p.node (class_row p (own ∷ [])) false) (ids p.node))
 declared_inside kind.TSMappedType p own =
-    map (declare p.node (type_parameter_row (here (own ∷ []))) false) (names_at role.Key p.node)
+    map (declaration_at p.node (type_parameter_row (here (own ∷ []))) false) (names_at role.Key p.node)
 declared_inside _ p own = []
 
 abbrev pub declared_on_opening : Place → OpenScope → List Declaration

@@ -8,23 +8,23 @@ pub record Binding : Type 0 where
   pub name : Name
   pub symbol : ℕ
 
-abbrev pub is_of : ℕ → Name → Binding → Bool
-is_of c x b = b.scope == c && bytes_eq b.name x
+abbrev pub is_binding_of : ℕ → Name → Binding → Bool
+is_binding_of c x b = b.scope == c && bytes_eq b.name x
 
 -- the symbol to which scope c binds the name
 abbrev pub get : List Binding → ℕ → Name → Option ℕ
 get [] c x = None
-get (b ∷ bs) c x = cond (is_of c x b) (Some b.symbol) (get bs c x)
+get (b ∷ bs) c x = cond (is_binding_of c x b) (Some b.symbol) (get bs c x)
 
 -- a bound name changes its symbol in place, a new one goes last
 abbrev pub put : List Binding → ℕ → Name → ℕ → List Binding
 put [] c x s = record { scope = c; name = x; symbol = s } ∷ []
-put (b ∷ bs) c x s = cond (is_of c x b) (record b { symbol = s } ∷ bs) (b ∷ put bs c x s)
+put (b ∷ bs) c x s = cond (is_binding_of c x b) (record b { symbol = s } ∷ bs) (b ∷ put bs c x s)
 
 -- the others keep their order
 abbrev pub remove : List Binding → ℕ → Name → List Binding
 remove [] c x = []
-remove (b ∷ bs) c x = cond (is_of c x b) (remove bs c x) (b ∷ remove bs c x)
+remove (b ∷ bs) c x = cond (is_binding_of c x b) (remove bs c x) (b ∷ remove bs c x)
 
 -- the name moves from scope c to scope d, if c binds it
 abbrev pub move : List Binding → ℕ → ℕ → Name → List Binding

@@ -30,8 +30,8 @@ is_write_place kind.ArrayAssignmentTarget r = same_role r role.Elements || same_
 is_write_place _ r = same_role r role.Binding
 
 -- a target that isn't yet written becomes written
-abbrev pub written : AstType → Role → Node → ℕ → ℕ
-written parent r child cursor =
+abbrev pub way_written : AstType → Role → Node → ℕ → ℕ
+way_written parent r child cursor =
     cond (is_write_place parent r && is_simple_target child.kind && not (meets cursor way.Write.bits)) way.Write.bits cursor
 
 -- a member, or a chain of one, as `a?.b`
@@ -39,8 +39,8 @@ abbrev pub is_member_or_chain : Node → Bool
 is_member_or_chain node = is_member node.kind || (is kind.ChainExpression node && holds (λ x. is_member x.kind) (child_of role.Expression node))
 
 -- what is exported: a type alone where it is marked so
-abbrev pub exported : Node → Node → ℕ
-exported parent child = cond (has mark.TypeOnly child || has mark.TypeOnly parent) way.TypeFlag.bits read_or_type
+abbrev pub way_exported : Node → Node → ℕ
+way_exported parent child = cond (has mark.TypeOnly child || has mark.TypeOnly parent) way.TypeFlag.bits read_or_type
 
 -- what an import of the form `import a = b` names
 abbrev pub equated : Node → Node → ℕ
@@ -67,7 +67,7 @@ at_child kind.ConditionalExpression parent ambient role.Test child cursor = with
 at_child kind.AssignmentTargetPropertyIdentifier parent ambient role.Binding child cursor = way.Write.bits
 at_child kind.ExportDefaultDeclaration parent ambient r child cursor = cond (is kind.IdentifierReference child) read_or_type cursor
 at_child kind.TSExportAssignment parent ambient r child cursor = cond (is kind.IdentifierReference child) read_or_type cursor
-at_child kind.ExportNamedDeclaration parent ambient role.Specifiers child cursor = exported parent child
+at_child kind.ExportNamedDeclaration parent ambient role.Specifiers child cursor = way_exported parent child
 at_child kind.TSPropertySignature parent ambient role.Key child cursor =
     cond (holds_kind (kind.IdentifierName ∷ kind.PrivateIdentifier ∷ []) child.kind) cursor way.ValueAsType.bits
 at_child kind.TSMethodSignature parent ambient role.Key child cursor = cond (has mark.Computed parent) way.ValueAsType.bits cursor
@@ -83,7 +83,7 @@ at_child _ parent ambient r child cursor = cursor
 
 -- the cursor on coming to a child
 abbrev pub cursor_before : Node → Bool → Role → Node → ℕ → ℕ
-cursor_before parent ambient r child cursor = written parent.kind r child (at_child parent.kind parent ambient r child cursor)
+cursor_before parent ambient r child cursor = way_written parent.kind r child (at_child parent.kind parent ambient r child cursor)
 
 -- the cursor after a child, from those before and behind it
 abbrev pub cursor_behind : AstType → Role → ℕ → ℕ → ℕ
@@ -127,5 +127,5 @@ cursor_after parent around cursor (tree r k span text marks below id after) =
     cursor_after parent around (cursor_behind parent.kind r cursor left) after
 
 -- the way of a reference: it reads where nothing else is said
-abbrev pub way_of : ℕ → ℕ
-way_of cursor = cond (cursor == 0) way.Read.bits cursor
+abbrev pub way_or_read : ℕ → ℕ
+way_or_read cursor = cond (cursor == 0) way.Read.bits cursor

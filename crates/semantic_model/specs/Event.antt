@@ -37,11 +37,11 @@ abbrev pub is_barred : List Declaration → Declaration → List OpenScope → B
 is_barred ds d [] = false
 is_barred ds d (c ∷ cs) = any_bars d c ds || is_barred ds d cs
 
-abbrev pub staying : Declaration → Declaration
-staying d = record d { how = plain; route = record { passed = []; target = scope_it_stands_in d } }
+abbrev pub staying_declaration : Declaration → Declaration
+staying_declaration d = record d { how = plain; route = record { passed = []; target = scope_it_stands_in d } }
 
 abbrev pub placed_by : How → List Declaration → Declaration → Declaration
-placed_by moved ds d = if is_barred ds d (outside d.route.passed) then staying d else d
+placed_by moved ds d = if is_barred ds d (outside d.route.passed) then staying_declaration d else d
 placed_by _ ds d = d
 
 -- a block function stays where a namesake stands strictly between it and its target

@@ -58,12 +58,12 @@ unless_expression flags (Some s) = cond (meets (flags s) symbol.FunctionExpressi
 abbrev pub found : State → ℕ → Name → Option ℕ
 found st c x = unless_expression (flags_of st) (or_else (get st.bindings c x) (get st.remembered c x))
 
-abbrev pub entry_of : Naming → Redeclaration
-entry_of n = record { span = n.span; declaration = n.node; flags = record { bits = n.flags } }
+abbrev pub redeclaration_of : Naming → Redeclaration
+redeclaration_of n = record { span = n.span; declaration = n.node; flags = record { bits = n.flags } }
 
 -- one more declaration of the symbol; without a list, its own goes first
 abbrev pub redeclared : Naming → Symbol → Symbol
-redeclared n y = record y { redeclarations = Some (unwrap_or y.redeclarations (own_entry y ∷ []) ++ entry_of n ∷ []) }
+redeclared n y = record y { redeclarations = Some (unwrap_or y.redeclarations (own_entry y ∷ []) ++ redeclaration_of n ∷ []) }
 
 abbrev pub united : ℕ → Symbol → Symbol
 united flags y = record y { flags = record { bits = union y.flags.bits flags } }

@@ -30,19 +30,19 @@ pub record Item : Type 0 where
   pub lists : List (List Node)
 
 -- what a statement counts as, and what it reaches
-pub record Reached : Type 0 where
+pub record StatementReach : Type 0 where
   pub states : List InstanceState
   pub items : List Item
 
-abbrev pub counts_as : InstanceState → Reached
+abbrev pub counts_as : InstanceState → StatementReach
 counts_as s = record { states = s ∷ []; items = [] }
 
-abbrev pub leads_to : List Item → Reached
+abbrev pub leads_to : List Item → StatementReach
 leads_to items = record { states = []; items = items }
 
 -- a namespace or an external module
-abbrev pub is_module : Node → Bool
-is_module node = holds_kind (kind.TSNamespaceDeclaration ∷ kind.TSExternalModuleDeclaration ∷ []) node.kind
+abbrev pub is_namespace_or_module : Node → Bool
+is_namespace_or_module node = holds_kind (kind.TSNamespaceDeclaration ∷ kind.TSExternalModuleDeclaration ∷ []) node.kind
 
 abbrev pub is_import_equals : Node → Bool
 is_import_equals node = is kind.TSImportEqualsDeclaration node
@@ -55,7 +55,7 @@ abbrev pub statements : Node → List Node
 statements node = children_of role.Body node.children
 
 -- the statements of a body: of a block its own, and a namespace that is a body stands alone
-abbrev pub body_items : Option Node → List (List Node) → Reached
+abbrev pub body_items : Option Node → List (List Node) → StatementReach
 body_items None lists = counts_as instantiated
 body_items (Some body) lists =
     leads_to (cond (is_list body) (map (λ x. record { node = x; lists = statements body ∷ lists }) (statements body)) (record { node = body; lists = lists } ∷ []))
@@ -82,30 +82,30 @@ target_of name [] = None
 target_of name (xs ∷ lists) = elim (first_declaring name xs) [ None ↦ target_of name lists | Some x ↦ Some (record { node = x; lists = xs ∷ lists }) ]
 
 -- an import, and a name that isn't declared, may be anything
-abbrev pub item_reached : Option Item → Reached
+abbrev pub item_reached : Option Item → StatementReach
 item_reached None = counts_as instantiated
 item_reached (Some item) = cond (is_import_equals (exported item.node)) (counts_as instantiated) (leads_to (item ∷ []))
 
-abbrev pub local_reached : List (List Node) → Option Node → Reached
+abbrev pub local_reached : List (List Node) → Option Node → StatementReach
 local_reached lists None = counts_as instantiated
 local_reached lists (Some local) =
     cond (is kind.IdentifierReference local) (item_reached (target_of local.text lists)) (counts_as instantiated)
 
 -- what an exported name reaches
-abbrev pub specifier_reached : List (List Node) → Node → Reached
+abbrev pub specifier_reached : List (List Node) → Node → StatementReach
 specifier_reached lists specifier = local_reached lists (child_of role.Local specifier)
 
-abbrev pub specifiers_reached : List Reached → Reached
+abbrev pub specifiers_reached : List StatementReach → StatementReach
 specifiers_reached rs = record { states = flat_map (λ r. r.states) rs; items = flat_map (λ r. r.items) rs }
 
 -- what an exported declaration counts as
-abbrev pub declaration_reached : List (List Node) → Node → Reached
+abbrev pub declaration_reached : List (List Node) → Node → StatementReach
 declaration_reached lists d =
-    cond (is_module d) (leads_to (record { node = d; lists = lists } ∷ []))
+    cond (is_namespace_or_module d) (leads_to (record { node = d; lists = lists } ∷ []))
     (cond (holds_kind (kind.TSTypeAliasDeclaration ∷ kind.TSInterfaceDeclaration ∷ []) d.kind) (counts_as non_instantiated) (counts_as instantiated))
 
 -- what one statement counts as and reaches
-abbrev pub reached_from : AstType → Item → Reached
+abbrev pub reached_from : AstType → Item → StatementReach
 reached_from kind.TSInterfaceDeclaration i = counts_as non_instantiated
 reached_from kind.TSTypeAliasDeclaration i = counts_as non_instantiated
 reached_from kind.TSImportEqualsDeclaration i = counts_as non_instantiated
@@ -126,7 +126,7 @@ abbrev pub new_items : List Item → List Item → List Item
 new_items old [] = []
 new_items old (i ∷ more) = cond (is_among i old) (new_items old more) (i ∷ new_items (i ∷ old) more)
 
-abbrev pub reach : Item → Reached
+abbrev pub reach : Item → StatementReach
 reach i = reached_from i.node.kind i
 
 -- all that is reached in any number of rounds up to a bound, from what is reached already and what is new

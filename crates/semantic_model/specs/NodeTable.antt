@@ -1,7 +1,7 @@
 -- What belongs to each node: its place, the scope that it opens, the symbol that it declares, the reference that it is.
 use Rattle.std.specs.Prelude.{ℕ, ◌==◌, suc, List, [], ◌∷◌, Option, Some, None, cond, map, filter_map}
 use Rattle.semantic_tree.specs.declared.node.Node.{Node}
-use Rattle.semantic_model.specs.Place.{at}
+use Rattle.semantic_model.specs.Place.{scope_of_place}
 use Rattle.semantic_model.specs.Step.{Step, entering}
 use Rattle.semantic_model.specs.Reference.{references}
 use Rattle.semantic_model.specs.Event.{events}
@@ -20,7 +20,7 @@ parent_id node [] = node.node_id
 parent_id node (parent ∷ path) = parent.node_id
 
 abbrev entered_node : Step → Option NodeEntry
-entered_node (entering p) = Some (record { node = p.node; scope = at p; parent = parent_id p.node p.path })
+entered_node (entering p) = Some (record { node = p.node; scope = scope_of_place p; parent = parent_id p.node p.path })
 entered_node _ = None
 
 -- the nodes in preorder

@@ -46,8 +46,8 @@ outside [] = []
 outside (s ∷ ss) = ss
 
 -- the scope where the place stands
-abbrev pub at : Place → ℕ
-at p = (innermost p.chain).number
+abbrev pub scope_of_place : Place → ℕ
+scope_of_place p = (innermost p.chain).number
 
 -- whether the code of the innermost scope is strict
 abbrev pub is_strict : List OpenScope → Bool

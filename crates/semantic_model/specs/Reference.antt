@@ -5,7 +5,7 @@ use Rattle.semantic_syntax.specs.Tables.{Name}
 use Rattle.semantic_tree.specs.Views.{is}
 use Rattle.semantic_model.specs.Place.{Place, OpenScope}
 use Rattle.semantic_model.specs.Step.{Step, entering}
-use Rattle.semantic_model.specs.Cursor.{way_of}
+use Rattle.semantic_model.specs.Cursor.{way_or_read}
 
 pub record Occurrence : Type 0 where
   pub node : ℕ
@@ -16,7 +16,7 @@ pub record Occurrence : Type 0 where
   pub chain : List OpenScope
 
 abbrev pub reference_at : Place → Occurrence
-reference_at p = record { node = p.node.node_id; name = p.node.text; way = way_of p.cursor; chain = p.chain }
+reference_at p = record { node = p.node.node_id; name = p.node.text; way = way_or_read p.cursor; chain = p.chain }
 
 abbrev pub entered_reference : Step → Option Occurrence
 entered_reference (entering p) = cond (is kind.IdentifierReference p.node) (Some (reference_at p)) None

@@ -48,9 +48,9 @@ opening_last p (Some s) n = []
 opening_last p None n = cond (opens p.node.kind) (opening p (opened_scope p n) ∷ closing p (opened_scope p n) ∷ []) []
 
 -- the scopes in which a child inside or outside of its parent's scope stands
-abbrev pub chain_within : Place → Role → Option OpenScope → List OpenScope
-chain_within p r None = p.chain
-chain_within p r (Some s) = cond (is_inside p.node.kind r) (record s { in_header = is_in_header p.node.kind r } ∷ p.chain) p.chain
+abbrev pub child_scopes : Place → Role → Option OpenScope → List OpenScope
+child_scopes p r None = p.chain
+child_scopes p r (Some s) = cond (is_inside p.node.kind r) (record s { in_header = is_in_header p.node.kind r } ∷ p.chain) p.chain
 
 -- a child where it stands
 abbrev pub child_place : Place → Option OpenScope → ℕ → Role → Node → Place
@@ -58,7 +58,7 @@ child_place p own cursor r node = record {
   source_type = p.source_type;
   role = r;
   node = node;
-  chain = cond (is_parameter_decorator p.node.kind r) (outside p.chain) (chain_within p r own);
+  chain = cond (is_parameter_decorator p.node.kind r) (outside p.chain) (child_scopes p r own);
   path = p.node ∷ p.path;
   cursor = cursor_before p.node (ambient_inside p.node p.is_ambient) r node cursor;
   is_ambient = ambient_round p.node p.is_ambient r;

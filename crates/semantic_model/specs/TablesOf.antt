@@ -21,7 +21,7 @@ use Rattle.semantic_model.specs.Binding.{Binding, bound_by}
 use Rattle.semantic_model.specs.Event.{Event, events}
 use Rattle.semantic_model.specs.Fold.{State, Made, start}
 use Rattle.semantic_model.specs.Hoist.{run}
-use Rattle.semantic_model.specs.Tie.{Tie, ties, in_order, symbol_of, final_flags}
+use Rattle.semantic_model.specs.Tie.{Tie, ties, in_order, tied_symbol, final_flags}
 
 -- a plain call of `eval`
 abbrev pub is_direct_eval : Node → Bool
@@ -66,7 +66,7 @@ entry_of t = record {
   node_id = t.reference.node;
   scope_id = (innermost t.reference.chain).number;
   flags = record { bits = final_flags t };
-  symbol_id = symbol_of t;
+  symbol_id = tied_symbol t;
 }
 
 abbrev pub is_symbol : ℕ → Option ℕ → Bool
@@ -75,10 +75,10 @@ is_symbol s (Some r) = r == s
 
 -- the references that are tied to symbol s, of ties in order
 abbrev pub uses_of : List Tie → ℕ → List ℕ
-uses_of ts s = map (λ t. t.number) (filter (λ t. is_symbol s (symbol_of t)) ts)
+uses_of ts s = map (λ t. t.number) (filter (λ t. is_symbol s (tied_symbol t)) ts)
 
 abbrev pub with_tie : FreeLists → Tie → FreeLists
-with_tie free t = elim (symbol_of t) [ None ↦ add_free free t.reference.name t.number | Some s ↦ free ]
+with_tie free t = elim (tied_symbol t) [ None ↦ add_free free t.reference.name t.number | Some s ↦ free ]
 
 -- the free references by name, of ties in order
 abbrev pub free_of : List Tie → FreeLists

@@ -56,8 +56,8 @@ abbrev pub symbol_by : Lookup → Option ℕ
 symbol_by (tied c s flags) = Some s
 symbol_by _ = None
 
-abbrev pub symbol_of : Tie → Option ℕ
-symbol_of t = symbol_by t.lookup
+abbrev pub tied_symbol : Tie → Option ℕ
+tied_symbol t = symbol_by t.lookup
 
 abbrev flags_by : Lookup → ℕ → ℕ
 flags_by (tied c s flags) w = settled w flags

@@ -18,14 +18,14 @@ use Rattle.semantic_model.proofs.steps.Compose.{flat-append}
 use Rattle.semantic_model.specs.Exported.{is_default_declaration, exported_names, default_exported_names}
 use Rattle.semantic_queries.specs.declared.node_symbols.exports.Export.{Export}
 use Rattle.semantic_queries.specs.declared.node_symbols.exports.Export.TheVariants as export
-use Rattle.semantic_queries.specs.Given.{names_given, given_names, given_below, given_from}
+use Rattle.semantic_queries.specs.Given.{names_given, names_exported_by, given_below, given_from}
 
 abbrev ids : List Node → List ℕ
 ids nodes = map (λ x. x.node_id) nodes
 
 -- the names that the node gives that is entered
 abbrev given_at : Export → Step → List ℕ
-given_at e (entering p) = given_names e p.node
+given_at e (entering p) = names_exported_by e p.node
 given_at e (opening p s) = []
 given_at e (header_ending p s) = []
 given_at e (closing p s) = []
@@ -43,7 +43,7 @@ module _ (e : Export) where
 
   -- what a child gives, and then the others
   turn : (xs ys es ws : List Step) (child : Place) → flat_map (given_at e) xs ≡ [] → flat_map (given_at e) es ≡ []
-      → flat_map (given_at e) (xs ++ (entering child ∷ (ys ++ leaving child ∷ [])) ++ es ++ ws) ≡ given_names e child.node ++ flat_map (given_at e) ys ++ flat_map (given_at e) ws
+      → flat_map (given_at e) (xs ++ (entering child ∷ (ys ++ leaving child ∷ [])) ++ es ++ ws) ≡ names_exported_by e child.node ++ flat_map (given_at e) ys ++ flat_map (given_at e) ws
   turn xs ys es ws child h k =
       let middle : List Step = entering child ∷ (ys ++ leaving child ∷ []) in
       flat-append (given_at e) (xs ++ middle ++ es) ws
@@ -53,7 +53,7 @@ module _ (e : Export) where
       ∙ append-nil (flat_map (given_at e) (xs ++ middle))
       ∙ flat-append (given_at e) xs middle
       ∙ ap (λ l. l ++ flat_map (given_at e) middle) h
-      ∙ ap (λ l. given_names e child.node ++ l) (flat-append (given_at e) ys (leaving child ∷ []) ∙ append-nil (flat_map (given_at e) ys)))
+      ∙ ap (λ l. names_exported_by e child.node ++ l) (flat-append (given_at e) ys (leaving child ∷ []) ∙ append-nil (flat_map (given_at e) ys)))
 
   steps_give : (p : Place) (own : Option OpenScope) (n cursor : ℕ) (f : Forest) → flat_map (given_at e) (steps_below p own n cursor f) ≡ given_below e f
   steps_give p own n cursor nothing = none_last p own n
@@ -61,12 +61,12 @@ module _ (e : Export) where
       let node : Node = record { kind = k; span = span; text = text; marks = marks; children = below; node_id = id } in
       let parts : Turn = turn_at p own n cursor r node after in
       turn parts.before parts.below parts.behind parts.others parts.child (none_open p r own n) (none_ended p r parts.scope after)
-      ∙ (λ i. given_names e node ++ steps_give parts.child None parts.next parts.inner below i ++ steps_give p parts.scope parts.rest parts.past after i)
+      ∙ (λ i. names_exported_by e node ++ steps_give parts.child None parts.next parts.inner below i ++ steps_give p parts.scope parts.rest parts.past after i)
 
   program_gives : (p : Tree) → flat_map (given_at e) (steps p) ≡ given_from e p.root
   program_gives p =
       let below : List Step = steps_below (root_place p) None 0 (on_entering p.root.kind 0) p.root.children in
-      ap (λ l. given_names e p.root ++ l) (
+      ap (λ l. names_exported_by e p.root ++ l) (
       flat-append (given_at e) below (leaving (root_place p) ∷ [])
       ∙ append-nil (flat_map (given_at e) below)
       ∙ steps_give (root_place p) None 0 (on_entering p.root.kind 0) p.root.children)

@@ -27,15 +27,15 @@ abbrev pub names_given : Export → List Node → List ℕ
 names_given e declarations = flat_map (λ d. cond (gives e d) (map (λ x. x.node_id) (bound_names d)) []) declarations
 
 -- the names that a node exports, if it is such a statement
-abbrev pub given_names : Export → Node → List ℕ
-given_names e node = cond (same_kind node.kind (exporting e)) (names_given e (children_of role.Declaration node.children)) []
+abbrev pub names_exported_by : Export → Node → List ℕ
+names_exported_by e node = cond (same_kind node.kind (exporting e)) (names_given e (children_of role.Declaration node.children)) []
 
 -- those of all nodes of a forest, in preorder
 abbrev pub given_below : Export → Forest → List ℕ
 given_below e nothing = []
 given_below e (tree r k span text marks below id after) =
-    given_names e (record { kind = k; span = span; text = text; marks = marks; children = below; node_id = id }) ++ given_below e below ++ given_below e after
+    names_exported_by e (record { kind = k; span = span; text = text; marks = marks; children = below; node_id = id }) ++ given_below e below ++ given_below e after
 
 -- and of a node and all below it
 abbrev pub given_from : Export → Node → List ℕ
-given_from e node = given_names e node ++ given_below e node.children
+given_from e node = names_exported_by e node ++ given_below e node.children

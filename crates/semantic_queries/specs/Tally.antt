@@ -4,14 +4,14 @@ use Rattle.semantic_syntax.specs.Tables.{Tables}
 use Rattle.semantic_tree.specs.Forest.{Forest, count}
 use Rattle.semantic_model.specs.Inside.{scopes_in}
 use Rattle.semantic_tree.specs.KindCounts.{how_many}
-use Rattle.walk_model.specs.Counted.{is_symbol, is_reference}
+use Rattle.walk_model.specs.Counted.{declares_symbol, is_reference}
 use Rattle.semantic_queries.specs.declared.stats.Stats.{Stats}
 
 -- the counts of a forest
 pub record IsCount (stats : Stats) (f : Forest) : Type 0 where
   pub nodes : stats.nodes ≡ count f
   pub scopes : stats.scopes ≡ scopes_in f
-  pub symbols : stats.symbols ≡ how_many is_symbol f
+  pub symbols : stats.symbols ≡ how_many declares_symbol f
   pub references : stats.references ≡ how_many is_reference f
 
 -- the tables have so many scopes and references, and no more symbols

@@ -5,7 +5,7 @@ ghost use Rattle.semantic_kinds.specs.declared.role.Role.TheVariants as role;
 ghost use Rattle.semantic_tree.specs.Children.{single};
 ghost use Rattle.semantic_model.specs.Inside.{opens};
 ghost use Rattle.semantic_model.specs.TablesOf.{tables_of};
-ghost use Rattle.walk_model.specs.Counted.{is_symbol, is_reference};
+ghost use Rattle.walk_model.specs.Counted.{declares_symbol, is_reference};
 ghost use Rattle.semantic_queries.specs.Tally.{increased, IsCount, IsSizeOf, IsAccurate};
 
 use node_rules::inside::opens;
@@ -22,7 +22,7 @@ pub struct Stats {
 
 /// Whether a node of the kind may declare a symbol: it is a binding identifier or an enum member.
 fn is_symbol(kind: AstType) -> bool
-    ensures { result ≡ is_symbol kind }
+    ensures { result ≡ declares_symbol kind }
 {
     matches!(kind, AstType::BindingIdentifier | AstType::TSEnumMember)
 }
@@ -78,11 +78,11 @@ impl Stats {
     /// Counts so many nodes of a kind, but for the nodes themselves.
     fn add_kind(&mut self, kind: AstType, count: u32)
         requires scopes { self.old.scopes + cond (opens kind) count 0 < 2 ^ 32 }
-        requires symbols { self.old.symbols + cond (is_symbol kind) count 0 < 2 ^ 32 }
+        requires symbols { self.old.symbols + cond (declares_symbol kind) count 0 < 2 ^ 32 }
         requires references { self.old.references + cond (is_reference kind) count 0 < 2 ^ 32 }
         ensures { self.new ≡ record self.old {
           scopes = self.old.scopes + cond (opens kind) count 0;
-          symbols = self.old.symbols + cond (is_symbol kind) count 0;
+          symbols = self.old.symbols + cond (declares_symbol kind) count 0;
           references = self.old.references + cond (is_reference kind) count 0;
         } }
     {

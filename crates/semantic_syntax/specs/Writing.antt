@@ -32,24 +32,24 @@ abbrev pub unbound : Tables → ℕ → Name → Tables
 unbound t s name = with_bindings t s (shift_remove_entry (bytes_eq name) (bindings_of t s))
 
 -- the name moved from one scope to another, where it is bound
-abbrev pub moved : Tables → ℕ → ℕ → Name → Tables
-moved t from to name = option_map_or (λ y. unbound (bound t to name y) from name) (lookup (bytes_eq name) (bindings_of t from)) t
+abbrev pub name_moved : Tables → ℕ → ℕ → Name → Tables
+name_moved t from to name = option_map_or (λ y. unbound (bound t to name y) from name) (lookup (bytes_eq name) (bindings_of t from)) t
 
 -- the old name unbound in the scope, and the new one bound to the symbol; equal names stay as they are
-abbrev pub renamed : Tables → ℕ → ℕ → Name → Name → Tables
-renamed t s y old new = if bytes_eq new old then t else bound (unbound t s old) s new y
+abbrev pub binding_renamed : Tables → ℕ → ℕ → Name → Name → Tables
+binding_renamed t s y old new = if bytes_eq new old then t else bound (unbound t s old) s new y
 
 -- the symbols with another name for one of them
-abbrev pub with_name : Name → List Symbol → ℕ → List Symbol
-with_name name ys y = slice_set ys y (record (slice_index_or ys y no_symbol) { name = name })
+abbrev pub with_symbol_name : Name → List Symbol → ℕ → List Symbol
+with_symbol_name name ys y = slice_set ys y (record (slice_index_or ys y no_symbol) { name = name })
 
 -- the symbols with another scope for one of them
 abbrev pub with_home : ℕ → List Symbol → ℕ → List Symbol
 with_home scope ys y = slice_set ys y (record (slice_index_or ys y no_symbol) { scope = scope })
 
 -- the list of one scope made the other's, and its symbols with it
-abbrev pub taken_over : Tables → ℕ → ℕ → Tables
-taken_over t from to = record (with_bindings (with_bindings t from []) to (bindings_of t from)) {
+abbrev pub bindings_taken_over : Tables → ℕ → ℕ → Tables
+bindings_taken_over t from to = record (with_bindings (with_bindings t from []) to (bindings_of t from)) {
   symbols = fold (with_home to) t.symbols (values_of (bindings_of t from));
 }
 

@@ -15,7 +15,7 @@ use Rattle.semantic_kinds.specs.declared.role.Role.{Role}
 use Rattle.semantic_kinds.specs.declared.role.Role.TheVariants as roles
 use Rattle.semantic_kinds.specs.declared.class.Class.{Class}
 use Rattle.semantic_kinds.specs.declared.class.Class.TheVariants as class
-use Rattle.semantic_tree.specs.Renamed.{swap, names_member, is_named, renamed_text}
+use Rattle.semantic_tree.specs.Renamed.{swap, names_member, is_program_name, renamed_text}
 use Rattle.semantic_tree.specs.declared.swap.Setting.{Setting}
 use Rattle.semantic_tree.specs.declared.swap.Setting.TheVariants.{InMember, InMemberName, Elsewhere}
 
@@ -41,7 +41,7 @@ of_member P name string piece InMemberName r k h = subst P (sym (same_true the_k
 of_member P name string piece Elsewhere r k h = absurd (not_both h)
 
 -- what holds of the five kinds that have names holds of a node with a name
-of_named : (P : AstType → Type 0) → P kinds.BindingIdentifier → P kinds.IdentifierReference → P kinds.IdentifierName → P kinds.StringLiteral → P kinds.TemplateElement → (s : Setting) (r : Role) (k : AstType) → is_named s r k ≡ true → P k
+of_named : (P : AstType → Type 0) → P kinds.BindingIdentifier → P kinds.IdentifierReference → P kinds.IdentifierName → P kinds.StringLiteral → P kinds.TemplateElement → (s : Setting) (r : Role) (k : AstType) → is_program_name s r k ≡ true → P k
 of_named P binding reference name string piece s r k h =
     elim (either_of (same_kind k kinds.BindingIdentifier || same_kind k kinds.IdentifierReference) (names_member s r k) h) [
       | inl e ↦ (elim (either_of (same_kind k kinds.BindingIdentifier) (same_kind k kinds.IdentifierReference) e) [
@@ -52,7 +52,7 @@ of_named P binding reference name string piece s r k h =
     ]
 
 -- a function has no name of its own
-pub function_unnamed : (s : Setting) (r : Role) → is_named s r kinds.Function ≡ false
+pub function_unnamed : (s : Setting) (r : Role) → is_program_name s r kinds.Function ≡ false
 function_unnamed InMember r = and_never (same_role r roles.Id)
 function_unnamed InMemberName r = and_never (same_role r roles.Quasis)
 function_unnamed Elsewhere r = refl
@@ -63,7 +63,7 @@ function_unnamed Elsewhere r = refl
 abbrev pub KeepsEmpty : (List ℕ → List ℕ) → Type 0
 KeepsEmpty f = (x : List ℕ) → bytes_eq (f x) [] ≡ bytes_eq x []
 
-named_text : (f : List ℕ → List ℕ) → KeepsEmpty f → (t : List ℕ) (s : Setting) (r : Role) (k : AstType) → is_named s r k ≡ true → may_have_text k (f t) ≡ may_have_text k t
+named_text : (f : List ℕ → List ℕ) → KeepsEmpty f → (t : List ℕ) (s : Setting) (r : Role) (k : AstType) → is_program_name s r k ≡ true → may_have_text k (f t) ≡ may_have_text k t
 named_text f keeps t s r k h =
     let P : AstType → Type 0 = λ kind. may_have_text kind (f t) ≡ may_have_text kind t in
     let some : not (bytes_eq (f t) []) ≡ not (bytes_eq t []) = ap not (keeps t) in
@@ -71,7 +71,7 @@ named_text f keeps t s r k h =
 
 pub text_kept : (f : List ℕ → List ℕ) → KeepsEmpty f → (t : List ℕ) (s : Setting) (r : Role) (k : AstType) → may_have_text k (renamed_text f s r k t) ≡ may_have_text k t
 text_kept f keeps t s r k =
-    elim (is_named s r k) as (λ b. is_named s r k ≡ b → may_have_text k (if b then f t else t) ≡ may_have_text k t) [
+    elim (is_program_name s r k) as (λ b. is_program_name s r k ≡ b → may_have_text k (if b then f t else t) ≡ may_have_text k t) [
       | true ↦ λ named. named_text f keeps t s r k named
       | false ↦ λ plain. refl
     ] refl
@@ -101,7 +101,7 @@ of_piece _ t u = refl
 pub class_kept : (f : List ℕ → List ℕ) (c : Class) (t : List ℕ) (s : Setting) (r : Role) (k : AstType) → is_of c k (renamed_text f s r k t) ≡ is_of c k t
 class_kept f c t s r k =
     let P : AstType → Type 0 = λ kind. is_of c kind (f t) ≡ is_of c kind t in
-    elim (is_named s r k) as (λ b. is_named s r k ≡ b → is_of c k (if b then f t else t) ≡ is_of c k t) [
+    elim (is_program_name s r k) as (λ b. is_program_name s r k ≡ b → is_of c k (if b then f t else t) ≡ is_of c k t) [
       | true ↦ λ named. of_named P (of_binding c (f t) t) (of_reference c (f t) t) (of_name c (f t) t) (of_string c (f t) t) (of_piece c (f t) t) s r k named
       | false ↦ λ plain. refl
     ] refl

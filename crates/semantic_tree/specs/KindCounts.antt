@@ -29,8 +29,8 @@ abbrev pub counted : KindCounts → AstType → ℕ
 counted counts k = get_or counts.counts (tag_of the_kinds k) 0
 
 -- at most so many of each kind were counted
-abbrev pub AreWithin : ℕ → KindCounts → Type 0
-AreWithin n counts = (k : AstType) → counted counts k ≤ n
+abbrev pub CountsAreWithin : ℕ → KindCounts → Type 0
+CountsAreWithin n counts = (k : AstType) → counted counts k ≤ n
 
 -- the nodes of the forest were counted, too
 abbrev pub AddsKinds : KindCounts → KindCounts → Forest → Type 0

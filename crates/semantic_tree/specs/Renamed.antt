@@ -24,8 +24,8 @@ names_member InMemberName role kind = same_role role roles.Quasis && same_kind k
 names_member Elsewhere role kind = false
 
 -- the text of such a node is a name of the program
-abbrev pub is_named : Setting → Role → AstType → Bool
-is_named setting role kind = same_kind kind kinds.BindingIdentifier || same_kind kind kinds.IdentifierReference || names_member setting role kind
+abbrev pub is_program_name : Setting → Role → AstType → Bool
+is_program_name setting role kind = same_kind kind kinds.BindingIdentifier || same_kind kind kinds.IdentifierReference || names_member setting role kind
 
 -- the setting below a node that is no enum member
 abbrev pub setting_inside : Setting → Role → AstType → Setting
@@ -39,7 +39,7 @@ setting_below setting role kind = if same_kind kind kinds.TSEnumMember then InMe
 
 -- the text of a node with other names
 abbrev pub renamed_text : (List ℕ → List ℕ) → Setting → Role → AstType → List ℕ → List ℕ
-renamed_text f setting role kind text = if is_named setting role kind then f text else text
+renamed_text f setting role kind text = if is_program_name setting role kind then f text else text
 
 -- the forest with other names
 abbrev pub renamed : (List ℕ → List ℕ) → Setting → Forest → Forest

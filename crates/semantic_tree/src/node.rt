@@ -6,7 +6,7 @@ ghost use Rattle.semantic_tree.specs.Forest.{Forest, nothing, join, count, numbe
 ghost use Rattle.semantic_tree.specs.Limits.{room_left};
 ghost use Rattle.semantic_tree.specs.Nodes.{trees};
 ghost use Rattle.semantic_tree.specs.Children.{single, node_count, numbered_node, forest_of};
-ghost use Rattle.semantic_tree.specs.KindCounts.{AreWithin, AddsKinds};
+ghost use Rattle.semantic_tree.specs.KindCounts.{CountsAreWithin, AddsKinds};
 ghost use Rattle.semantic_kinds.specs.declared.role.Role.TheVariants as role;
 
 use crate::kind_counts::KindCounts;
@@ -119,7 +119,7 @@ impl Node {
     #[cycle(number)]
     pub(crate) fn number(&mut self, next: u32, kinds: &mut KindCounts) -> u32
         requires fits { next + node_count self.old < 2 ^ 32 - 1 }
-        requires within { AreWithin next kinds.old }
+        requires within { CountsAreWithin next kinds.old }
         ensures numbered { self.new ≡ numbered_node next self.old }
         ensures next { result ≡ next + node_count self.old }
         ensures kinds { AddsKinds kinds.old kinds.new (single role.Root self.old) }
@@ -191,7 +191,7 @@ impl Children {
     #[cycle(number)]
     fn number_all(&mut self, first: u32, kinds: &mut KindCounts) -> u32
         requires fits { first + count self.old < 2 ^ 32 - 1 }
-        requires within { AreWithin first kinds.old }
+        requires within { CountsAreWithin first kinds.old }
         ensures numbered { self.new ≡ numbered first self.old }
         ensures next { result ≡ first + count self.old }
         ensures kinds { AddsKinds kinds.old kinds.new self.old }

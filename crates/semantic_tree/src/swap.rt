@@ -2,7 +2,7 @@
 
 ghost use Rattle.std.specs.Prelude.{◌≡◌, IfOk};
 ghost use Rattle.std.specs.Str.{chars};
-ghost use Rattle.semantic_tree.specs.Renamed.{swap, names_member, is_named, setting_inside, setting_below, renamed_text, renamed_node};
+ghost use Rattle.semantic_tree.specs.Renamed.{swap, names_member, is_program_name, setting_inside, setting_below, renamed_text, renamed_node};
 
 use crate::node::Node;
 use semantic_kinds::{AstType, Role};
@@ -36,7 +36,7 @@ impl Setting {
 
     /// Whether the text of a node here is a name of the program.
     fn is_named(self, role: Role, kind: AstType) -> bool
-        ensures { result ≡ is_named self role kind }
+        ensures { result ≡ is_program_name self role kind }
     {
         kind == AstType::BindingIdentifier
             || kind == AstType::IdentifierReference

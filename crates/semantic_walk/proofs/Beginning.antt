@@ -20,7 +20,7 @@ use Rattle.semantic_tree.specs.Tree.{Tree, IsNumbered}
 use Rattle.semantic_tree.proofs.Preorder.{root_in_preorder}
 use Rattle.semantic_tree.proofs.ShapedLaws.{IsShaped-no_fault}
 use Rattle.semantic_model.specs.Namespace.{InstanceState}
-use Rattle.semantic_model.specs.Place.{Place, OpenScope, at}
+use Rattle.semantic_model.specs.Place.{Place, OpenScope, scope_of_place}
 use Rattle.semantic_model.specs.Cursor.{on_entering}
 use Rattle.semantic_model.specs.Declaration.{Declaration}
 use Rattle.semantic_model.specs.Event.{written_declarations}
@@ -33,7 +33,7 @@ use Rattle.walk_model.specs.Recursion.{IsBetween}
 use Rattle.walk_model.specs.Settles.{settle_rest}
 use Rattle.walk_model.specs.WalkState.{WalkState, no_tables, nothing_made}
 use Rattle.walk_model.specs.Walks.{after, after_all, walked}
-use Rattle.walk_model.specs.WrittenNames.{Written}
+use Rattle.walk_model.specs.WrittenNames.{WrittenName}
 use Rattle.walk_model.proofs.refers.GivesTables.{gives_tables}
 use Rattle.walk_model.proofs.written.NamesStand.{names_stand}
 use Rattle.walk_model.proofs.once.NotedOnce.{notes_once}
@@ -63,12 +63,12 @@ use Rattle.check_walk.proofs.Readiness.{ready_begins}
 use Rattle.check_walk.proofs.ReferencesApart.{no_keys}
 use Rattle.semantic_walk.proofs.Visiting.{left_is, stated_left}
 
-named_left : (ds : List Declaration) (ws : List Written) (xs ys : List Step) → AllNamed ds ws (xs ++ ys) → AllNamed ds ws xs
+named_left : (ds : List Declaration) (ws : List WrittenName) (xs ys : List Step) → AllNamed ds ws (xs ++ ys) → AllNamed ds ws xs
 named_left ds ws [] ys h = tt
 named_left ds ws (x ∷ xs) ys h = (h.0, named_left ds ws xs ys h.1)
 
 -- below the root, whose scope is open
-root_named : (ds : List Declaration) (ws : List Written) (p : Place) (cursor : ℕ) (f : Forest) → p.node.kind ≡ kind.Program → AllNamed ds ws (steps_below p None 0 cursor f) → AllNamed ds ws (steps_below p (Some (root_scope p)) 1 cursor f)
+root_named : (ds : List Declaration) (ws : List WrittenName) (p : Place) (cursor : ℕ) (f : Forest) → p.node.kind ≡ kind.Program → AllNamed ds ws (steps_below p None 0 cursor f) → AllNamed ds ws (steps_below p (Some (root_scope p)) 1 cursor f)
 root_named ds ws p cursor nothing e h = tt
 root_named ds ws p cursor (tree r k span text marks below id after) e h =
     let parted : AllNamed ds ws (opening p (root_scope p) ∷ steps_below p (Some (root_scope p)) 1 cursor (tree r k span text marks below id after)) = subst (AllNamed ds ws) opens_first h in parted.1
@@ -119,7 +119,7 @@ between p cursor f v w e none h =
 -- the root is to be entered first
 root_next : (program : Tree) → IsNumbered program.root → (keeps : Bool) → IfSome (kept_from keeps) (IsNext (root_place program))
 root_next program numbered false = tt
-root_next program numbered true = record { next = ap (λ (x : Node). x.node_id) numbered; above = ap (λ (id : ℕ). (record { node = program.root; scope = at (root_place program); parent = id }) ∷ []) (sym (ap (λ (x : Node). x.node_id) numbered)); order = root_in_preorder program.root numbered; parents = refl }
+root_next program numbered true = record { next = ap (λ (x : Node). x.node_id) numbered; above = ap (λ (id : ℕ). (record { node = program.root; scope = scope_of_place (root_place program); parent = id }) ∷ []) (sym (ap (λ (x : Node). x.node_id) numbered)); order = root_in_preorder program.root numbered; parents = refl }
 
 -- with checks on, what they ask holds there
 root_ready : (program : Tree) → first_fault program ≡ None → IsNumbered program.root → (on : Bool) → on ≡ true
@@ -129,7 +129,7 @@ root_ready program fits numbered on noted =
     subst (λ (b : Bool). IsReadyAt (encode_utf8_all program.source) opened (nothing_noted b).classes (root_place program)) (sym noted) (ready_begins program fits numbered opened no_keys)
 
 -- the walk comes to the root
-root_comes_at : (ds : List Declaration) (program : Tree) (states : List InstanceState) (ws : List Written) (keeps on checks : Bool) → first_fault program ≡ None → IsNumbered program.root → (checks ≡ true → on ≡ true) → length (encode_utf8_all program.source) ≤ source_limit
+root_comes_at : (ds : List Declaration) (program : Tree) (states : List InstanceState) (ws : List WrittenName) (keeps on checks : Bool) → first_fault program ≡ None → IsNumbered program.root → (checks ≡ true → on ≡ true) → length (encode_utf8_all program.source) ≤ source_limit
     → IsBetween (root_made ds (root_place program)) (root_place program) (Some (root_scope (root_place program))) 1 (on_entering program.root.kind 0) 0 program.root.children
     → AllNamed ds ws (steps program) → AllStated states (steps program) → IsComing ds (begun program states ws keeps on checks) (root_place program) (Some (root_scope (root_place program))) 1
 root_comes_at ds program states ws keeps on checks fits numbered noted limit h named stated =
@@ -151,7 +151,7 @@ root_comes_at ds program states ws keeps on checks fits numbered noted limit h n
       limit = limit;
     }
 
-pub root_comes : (program : Tree) → first_fault program ≡ None → IsNumbered program.root → (states : List InstanceState) (ws : List Written) → (keeps on checks : Bool) → (checks ≡ true → on ≡ true) → length (encode_utf8_all program.source) ≤ source_limit → (ds : List Declaration) → AllNamed ds ws (steps program) → AllStated states (steps program) → IsComing ds (begun program states ws keeps on checks) (root_place program) (Some (root_scope (root_place program))) 1
+pub root_comes : (program : Tree) → first_fault program ≡ None → IsNumbered program.root → (states : List InstanceState) (ws : List WrittenName) → (keeps on checks : Bool) → (checks ≡ true → on ≡ true) → length (encode_utf8_all program.source) ≤ source_limit → (ds : List Declaration) → AllNamed ds ws (steps program) → AllStated states (steps program) → IsComing ds (begun program states ws keeps on checks) (root_place program) (Some (root_scope (root_place program))) 1
 root_comes program fits numbered states ws keeps on checks noted limit ds named stated = root_comes_at ds program states ws keeps on checks fits numbered noted limit (root_between ds program fits) named stated
 
 -- all below the root is walked
@@ -163,14 +163,14 @@ abbrev pub root_over : Tree → Walker → Walker
 root_over program w = walked_over (written_declarations (steps program)) w (root_place program) (Some (root_scope (root_place program))) 1
 
 -- the walk has made, behind the root, all that the steps do
-pub root_done : (ds : List Declaration) (program : Tree) (states : List InstanceState) (ws : List Written) (keeps on checks : Bool) → program.root.kind ≡ kind.Program
+pub root_done : (ds : List Declaration) (program : Tree) (states : List InstanceState) (ws : List WrittenName) (keeps on checks : Bool) → program.root.kind ≡ kind.Program
     → (walked_within ds (begun program states ws keeps on checks) (root_place program) (Some (root_scope (root_place program))) 1).made
     ≡ after_all ds (root_made ds (root_place program)) (steps_below (root_place program) (Some (root_scope (root_place program))) 1 (on_entering program.root.kind 0) program.root.children)
 root_done ds program states ws keeps on checks e =
     ap (λ (v : WalkState). after_all ds v (steps_below (root_place program) (Some (root_scope (root_place program))) 1 (on_entering program.root.kind 0) program.root.children)) (entered_is ds (root_place program) e)
 
 -- which is the walk over the program
-pub root_walks : (program : Tree) → first_fault program ≡ None → (states : List InstanceState) (ws : List Written) (keeps on checks : Bool) → (made : WalkState)
+pub root_walks : (program : Tree) → first_fault program ≡ None → (states : List InstanceState) (ws : List WrittenName) (keeps on checks : Bool) → (made : WalkState)
     → made ≡ (root_within program (begun program states ws keeps on checks)).made → settle_rest made ≡ walked program
 root_walks program fits states ws keeps on checks made is =
     ap settle_rest (is ∙ root_done (written_declarations (steps program)) program states ws keeps on checks (root_is_program program fits)) ∙ sym (root_walked program (root_is_program program fits))

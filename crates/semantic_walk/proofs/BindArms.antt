@@ -10,10 +10,10 @@ use Rattle.semantic_tree.specs.declared.node.Node.{Node}
 use Rattle.semantic_model.specs.Names.{binding_roles, bound_names, names_at}
 use Rattle.semantic_model.specs.Place.{Place, OpenScope}
 use Rattle.semantic_model.specs.Declaration.{Declaration}
-use Rattle.semantic_model.specs.Binder.{declare_here, ids, marked_ambient, imports, declared_by, declared_on_entering, declared_inside, declared_on_opening}
+use Rattle.semantic_model.specs.Binder.{declare_here, ids, marked_ambient, import_declarations, declared_by, declared_on_entering, declared_inside, declared_on_opening}
 use Rattle.walk_model.specs.Shown.{HasVar, IsGrounded}
 use Rattle.node_rules.specs.declared.rows.Row.{Row}
-use Rattle.node_rules.specs.Seen.{IsRow}
+use Rattle.node_rules.specs.Seen.{IsBinderRow}
 use Rattle.table_building.specs.Named.{named_by}
 use Rattle.semantic_walk.specs.Walker.{Walker}
 use Rattle.semantic_walk.specs.AtPlace.{IsWithin}
@@ -69,7 +69,7 @@ nothing_opened kind.TSMappedType p own h = absurd (h.mapped refl)
 nothing_opened _ p own h = refl
 
 -- each specifier of an import declares alike
-pub imports_declared : (k : AstType) (p : Place) → (k ≡ kind.ImportSpecifier) ⊎ ((k ≡ kind.ImportDefaultSpecifier) ⊎ (k ≡ kind.ImportNamespaceSpecifier)) → declared_by k p ≡ imports p
+pub imports_declared : (k : AstType) (p : Place) → (k ≡ kind.ImportSpecifier) ⊎ ((k ≡ kind.ImportDefaultSpecifier) ⊎ (k ≡ kind.ImportNamespaceSpecifier)) → declared_by k p ≡ import_declarations p
 imports_declared k p (inl e) = ap (λ j. declared_by j p) e
 imports_declared k p (inr (inl e)) = ap (λ j. declared_by j p) e
 imports_declared k p (inr (inr e)) = ap (λ j. declared_by j p) e
@@ -84,7 +84,7 @@ below_root p k e apart (inr q) = absurd (clash (sym apart ∙ ap (λ j. same_kin
 
 module _ (ds : List Declaration) (w : Walker) (p : Place) (node : Node) (row : Row) (e : p.node ≡ node) where
   -- a node that declares its ids by one row
-  pub ids_declared : (k : AstType) (flags : Node → ℕ) (excluded : ℕ) → p.node.kind ≡ k → IsRow row (flags node) excluded → IsWithin w p p.chain
+  pub ids_declared : (k : AstType) (flags : Node → ℕ) (excluded : ℕ) → p.node.kind ≡ k → IsBinderRow row (flags node) excluded → IsWithin w p p.chain
       → same_kind k kind.BindingIdentifier ≡ false → binding_roles k ≡ role.Id ∷ [] → declared_by k p ≡ declare_here p (flags p.node) excluded (ids p.node)
       → declaring w (map (named_by node row false) (bound_names node)) ≡ acting ds w (declared_on_entering p)
   ids_declared k flags excluded is same within other roles declared =
@@ -93,19 +93,19 @@ module _ (ds : List Declaration) (w : Walker) (p : Place) (node : Node) (row : R
       ∙ ap (λ new. acting ds w new) (sym declared)
       ∙ ap (λ j. acting ds w (declared_by j p)) (sym is)
 
-  pub class_entered : p.node.kind ≡ kind.Class → is_bound_inside p.node ≡ false → IsRow row (union symbol.Class.bits (marked_ambient node)) symbol.ClassExcludes.bits → IsWithin w p p.chain
+  pub class_entered : p.node.kind ≡ kind.Class → is_bound_inside p.node ≡ false → IsBinderRow row (union symbol.Class.bits (marked_ambient node)) symbol.ClassExcludes.bits → IsWithin w p p.chain
       → declaring w (map (named_by node row false) (bound_names node)) ≡ acting ds w (declared_on_entering p)
   class_entered is outside same within =
       row_at_acts ds w p p.chain node row false (λ n. union symbol.Class.bits (marked_ambient n)) symbol.ClassExcludes.bits bound_names e same within
       ∙ ap (λ new. acting ds w new) (sym (class_declares p is (stated p.node kind.Class is refl outside)))
 
-  pub class_opened : (own : OpenScope) → p.node.kind ≡ kind.Class → is_bound_inside p.node ≡ true → IsRow row (union symbol.Class.bits (marked_ambient node)) symbol.ClassExcludes.bits → IsWithin w p (own ∷ [])
+  pub class_opened : (own : OpenScope) → p.node.kind ≡ kind.Class → is_bound_inside p.node ≡ true → IsBinderRow row (union symbol.Class.bits (marked_ambient node)) symbol.ClassExcludes.bits → IsWithin w p (own ∷ [])
       → declaring w (map (named_by node row false) (bound_names node)) ≡ acting ds w (declared_on_opening p own)
   class_opened own is inside same within =
       row_at_acts ds w p (own ∷ []) node row false (λ n. union symbol.Class.bits (marked_ambient n)) symbol.ClassExcludes.bits bound_names e same within
       ∙ ap (λ new. acting ds w new) (sym (class_opens p own is (unstated p.node kind.Class is refl inside)))
 
-  pub mapped_opened : (own : OpenScope) → p.node.kind ≡ kind.TSMappedType → IsRow row symbol.TypeParameter.bits symbol.TypeParameterExcludes.bits → IsWithin w p (own ∷ [])
+  pub mapped_opened : (own : OpenScope) → p.node.kind ≡ kind.TSMappedType → IsBinderRow row symbol.TypeParameter.bits symbol.TypeParameterExcludes.bits → IsWithin w p (own ∷ [])
       → declaring w (map (named_by node row false) (names_at role.Key node)) ≡ acting ds w (declared_on_opening p own)
   mapped_opened own is same within =
       row_at_acts ds w p (own ∷ []) node row false (λ n. symbol.TypeParameter.bits) symbol.TypeParameterExcludes.bits (names_at role.Key) e same within

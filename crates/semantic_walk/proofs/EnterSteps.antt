@@ -9,8 +9,8 @@ use Rattle.semantic_kinds.specs.declared.mark.Mark.TheVariants as mark
 use Rattle.semantic_kinds.specs.declared.role.Role.TheVariants as role
 use Rattle.semantic_tree.specs.Unwrapped.{inner_expression}
 use Rattle.semantic_tree.specs.Views.{is, has, holds, child_of, has_text}
-use Rattle.semantic_model.specs.Place.{Place, at}
-use Rattle.semantic_model.specs.Cursor.{on_entering, way_of}
+use Rattle.semantic_model.specs.Place.{Place, scope_of_place}
+use Rattle.semantic_model.specs.Cursor.{on_entering, way_or_read}
 use Rattle.semantic_model.specs.Declaration.{Declaration}
 use Rattle.semantic_model.specs.Step.{entering}
 use Rattle.semantic_model.specs.TablesOf.{is_direct_eval}
@@ -53,12 +53,12 @@ module _ (ds : List Declaration) (w : Walker) (p : Place) (comes : ComesTo w p) 
   -- on entering a reference the cursor stays
   referred : (b : Bool) → is kind.IdentifierReference p.node ≡ b → cond b (referring (stepped p.node) p.node) (stepped p.node) ≡ record (stepped p.node) { made = cond b (refer w.made p) w.made }
   referred true h =
-      ap (λ n. record (stepped p.node) { made = refer_to w.made p.node.node_id p.node.text n (way_of (on_entering p.node.kind w.cursor)) }) comes.current
-      ∙ ap (λ n. record (stepped p.node) { made = refer_to w.made p.node.node_id p.node.text (at p) (way_of n) })
+      ap (λ n. record (stepped p.node) { made = refer_to w.made p.node.node_id p.node.text n (way_or_read (on_entering p.node.kind w.cursor)) }) comes.current
+      ∙ ap (λ n. record (stepped p.node) { made = refer_to w.made p.node.node_id p.node.text (scope_of_place p) (way_or_read n) })
       (ap (λ k. on_entering k w.cursor) (kind_is p.node.kind kind.IdentifierReference h) ∙ comes.cursor)
   referred false h = refl
 
-  called : (b : Bool) (m : WalkState) → ◌≡◌ {A = Walker} (cond b (record (stepped p.node) { made = add_eval m w.current }) (record (stepped p.node) { made = m })) (record (stepped p.node) { made = cond b (add_eval m (at p)) m })
+  called : (b : Bool) (m : WalkState) → ◌≡◌ {A = Walker} (cond b (record (stepped p.node) { made = add_eval m w.current }) (record (stepped p.node) { made = m })) (record (stepped p.node) { made = cond b (add_eval m (scope_of_place p)) m })
   called true m = ap (λ n. record (stepped p.node) { made = add_eval m n }) comes.current
   called false m = refl
 

@@ -19,9 +19,9 @@ use Rattle.semantic_model.specs.Cursor.{at_child, cursor_before, cursor_behind, 
 use Rattle.semantic_model.specs.Declaration.{Declaration}
 use Rattle.semantic_model.specs.Inside.{Inside, no_scope_opens, holds_for, inside, opens_for, is_inside, header_roles, is_parameter_decorator}
 use Rattle.semantic_tree.specs.Views.{is, has}
-use Rattle.semantic_model.specs.Place.{Place, OpenScope, innermost, outside, at}
+use Rattle.semantic_model.specs.Place.{Place, OpenScope, innermost, outside, scope_of_place}
 use Rattle.semantic_model.specs.ScopeKind.{opened_scope}
-use Rattle.semantic_model.specs.Step.{opening, closing, opening_at, opening_last, ending_after, scope_at, chain_within, child_place}
+use Rattle.semantic_model.specs.Step.{opening, closing, opening_at, opening_last, ending_after, scope_at, child_scopes, child_place}
 use Rattle.walk_model.specs.WalkState.{WalkState}
 use Rattle.walk_model.specs.Waits.{start_at}
 use Rattle.walk_model.specs.Walks.{after_all}
@@ -175,7 +175,7 @@ module _ (p : Place) (even : acts_between p.node.kind ≡ false) where
     same_start (Some s) start made = refl
     same_start None start made = rw stays_outside refl
 
-    within_chain : (own : Option OpenScope) → chain_within p r own ≡ p.chain
+    within_chain : (own : Option OpenScope) → child_scopes p r own ≡ p.chain
     within_chain None = refl
     within_chain (Some s) = rw stays_outside refl
 
@@ -184,7 +184,7 @@ module _ (p : Place) (even : acts_between p.node.kind ≡ false) where
         (otherwise (acts_between p.node.kind) false (holds_kind (kind.FormalParameter ∷ kind.FormalParameterRest ∷ []) p.node.kind) false (decorates p.node.kind) even)
 
     same_chain : (own : Option OpenScope) → (child_place p own cursor r child).chain ≡ p.chain
-    same_chain own = ap (λ b. cond b (outside p.chain) (chain_within p r own)) no_decorator ∙ within_chain own
+    same_chain own = ap (λ b. cond b (outside p.chain) (child_scopes p r own)) no_decorator ∙ within_chain own
 
     same_cursor : (ambient : Bool) → cursor_before p.node ambient r child cursor ≡ cursor
     same_cursor ambient =
@@ -202,10 +202,10 @@ module _ (p : Place) (even : acts_between p.node.kind ≡ false) where
     -- so a walk that comes to the child stands there already
     pub stands_there : (ds : List Declaration) (w : Walker) (turn : Turn) (own : Option OpenScope) (start : ℕ) (f : Forest) → IsBetweenAt ds w turn p own n cursor start f
         → let place = child_place p (scope_at p r own n) cursor r child in
-        (w ≡ record w { made = after_all ds w.made (opening_at p r own n); current = at place; cursor = place.cursor; is_ambient = place.is_ambient })
+        (w ≡ record w { made = after_all ds w.made (opening_at p r own n); current = scope_of_place place; cursor = place.cursor; is_ambient = place.is_ambient })
         × IsTurnAt turn p (scope_at p r own n) (start_at p r own start w.made)
     stands_there ds w turn own start f h =
-        let here : w.current ≡ at (child_place p (scope_at p r own n) cursor r child) =
+        let here : w.current ≡ scope_of_place (child_place p (scope_at p r own n) cursor r child) =
         h.within.current ∙ sym (ap (λ (chain : List OpenScope). (innermost chain).number) (same_chain (scope_at p r own n))) in (
           λ i. record w {
             made = after_all ds w.made (sym (none_opens own) i);
@@ -236,7 +236,7 @@ are_alike acts node r h = by acts (same_role r role.Binding) (has mark.Declare n
 pub comes_alike : (ds : List Declaration) (w : Walker) (turn : Turn) (p : Place) (own : Option OpenScope) (n cursor start : ℕ) (f : Forest) (parent : Node) (r : Role) (child : Node)
     → p.node ≡ parent → stands_alike turn.acts parent r ≡ true → IsBetweenAt ds w turn p own n cursor start f
     → let place = child_place p (scope_at p r own n) cursor r child in
-    (w ≡ record w { made = after_all ds w.made (opening_at p r own n); current = at place; cursor = place.cursor; is_ambient = place.is_ambient })
+    (w ≡ record w { made = after_all ds w.made (opening_at p r own n); current = scope_of_place place; cursor = place.cursor; is_ambient = place.is_ambient })
     × IsTurnAt turn p (scope_at p r own n) (start_at p r own start w.made)
 comes_alike ds w turn p own n cursor start f parent r child node alike h =
     let all = are_alike turn.acts p.node r (ap (λ (x : Node). stands_alike turn.acts x r) node ∙ alike) in
@@ -245,7 +245,7 @@ comes_alike ds w turn p own n cursor start f parent r child node alike h =
 -- and behind one the walk stands in the node again
 pub ends_alike : (ds : List Declaration) (w v : Walker) (turn : Turn) (p : Place) (own : Option OpenScope) (start before : ℕ) (k : AstType) (r : Role) (f : Forest)
     → p.node.kind ≡ k → turn.acts ≡ false → IsTurnAt turn p own start → v ≡ record w { current = turn.outer; is_ambient = turn.is_ambient }
-    → v ≡ record w { made = after_all ds w.made (ending_after p r own f); current = at p; cursor = cursor_behind k r before w.cursor; is_ambient = p.is_ambient }
+    → v ≡ record w { made = after_all ds w.made (ending_after p r own f); current = scope_of_place p; cursor = cursor_behind k r before w.cursor; is_ambient = p.is_ambient }
 ends_alike ds w v turn p own start before k r f same quiet h e =
     let even : acts_between p.node.kind ≡ false = sym h.acts ∙ quiet in
     e

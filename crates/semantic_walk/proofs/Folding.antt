@@ -20,7 +20,7 @@ use Rattle.semantic_tree.specs.Views.{has}
 use Rattle.semantic_model.specs.Place.{Place, OpenScope}
 use Rattle.semantic_model.specs.Step.{Step, entering, opening, header_ending, closing, leaving, steps}
 use Rattle.walk_model.specs.Noted.{with_entry}
-use Rattle.walk_model.specs.Opens.{number_of, open_scope}
+use Rattle.walk_model.specs.Opens.{innermost_number, open_scope}
 use Rattle.walk_model.specs.Shown.{ShowsChain, IsGrounded}
 use Rattle.walk_model.specs.WalkState.{WalkState, nothing_made}
 use Rattle.walk_model.specs.Walks.{numbers, act_all, after, after_all}
@@ -65,11 +65,11 @@ same_scopes : (ds new : List Declaration) (w : WalkState) → length (act_all w 
 same_scopes ds new w = omega (arith, (declares_add ds new w).of_scopes, (acts_rows w (declares_all ds new)).longer)
 
 -- the scopes of a chain that is shown have smaller numbers, one after another
-descends_from : (t : Tables) (n : ℕ) (chain : List OpenScope) → IfSome (number_of chain) (λ c. c < n) → ShowsChain t chain → Descends n chain
+descends_from : (t : Tables) (n : ℕ) (chain : List OpenScope) → IfSome (innermost_number chain) (λ c. c < n) → ShowsChain t chain → Descends n chain
 descends_from t n [] l h = tt
 descends_from t n (s ∷ ss) l h = (l, descends_from t s.number ss h.0.falls h.1)
 
-first_within : (t : Tables) (chain : List OpenScope) → ShowsChain t chain → IfSome (number_of chain) (λ c. c < length t.scopes)
+first_within : (t : Tables) (chain : List OpenScope) → ShowsChain t chain → IfSome (innermost_number chain) (λ c. c < length t.scopes)
 first_within t [] h = tt
 first_within t (s ∷ ss) h = h.0.within
 
@@ -84,7 +84,7 @@ folds_entering ds w v p st grounded chain e h =
 
 -- a row of the own scope goes no further
 own_row : (own : OpenScope) (node : Node) (flags excluded : ℕ) (is_pure : Bool) (names : List Node)
-    → AllGoOut (own ∷ []) (map (binder.declare node (record { flags = flags; excluded = excluded; how = plain; route = here (own ∷ []) }) is_pure) names)
+    → AllGoOut (own ∷ []) (map (binder.declaration_at node (record { flags = flags; excluded = excluded; how = plain; route = here (own ∷ []) }) is_pure) names)
 own_row own node flags excluded is_pure [] = tt
 own_row own node flags excluded is_pure (x ∷ xs) = (record { rest = []; is = refl; leaves = tt }, own_row own node flags excluded is_pure xs)
 
@@ -125,7 +125,7 @@ step_scopes ds w (opening p s) =
       arith,
       (acts_rows (open_scope w p s) (events_of ds (opening p s))).longer,
       (step_adds ds w (opening p s)).of_scopes,
-      length-append w.tables.scopes (record { parent = number_of p.chain; node = s.opener; flags = record { bits = s.flags } } ∷ []),
+      length-append w.tables.scopes (record { parent = innermost_number p.chain; node = s.opener; flags = record { bits = s.flags } } ∷ []),
     )
 step_scopes ds w (header_ending p s) = omega (arith, (step_rows ds w (header_ending p s)).longer, (step_adds ds w (header_ending p s)).of_scopes)
 step_scopes ds w (closing p s) = omega (arith, (step_rows ds w (closing p s)).longer, (step_adds ds w (closing p s)).of_scopes)

@@ -12,7 +12,7 @@ use Rattle.semantic_model.specs.Entries.{Among}
 use Rattle.semantic_model.specs.Inside.{opens, is_inside, any_inside, header_roles, is_in_header}
 use Rattle.semantic_model.specs.NodeTable.{NodeEntry, nodes as entered_nodes}
 use Rattle.semantic_tree.specs.Views.{has_role}
-use Rattle.semantic_model.specs.Place.{Place, OpenScope, at}
+use Rattle.semantic_model.specs.Place.{Place, OpenScope, scope_of_place}
 use Rattle.semantic_model.specs.ScopeKind.{opened_scope}
 use Rattle.semantic_model.specs.Step.{Step, entering, opening, header_ending, closing, leaving, steps_below, opening_at, ending_after, opening_last, scope_at, next_at, child_place, root_place, steps}
 use Rattle.semantic_model.proofs.lists.Members.{among_left, among_right, among_cases}
@@ -28,7 +28,7 @@ above_id node [] = node.node_id
 above_id node (parent ∷ path) = parent.node_id
 
 abbrev entry : Place → NodeEntry
-entry p = record { node = p.node; scope = at p; parent = above_id p.node p.path }
+entry p = record { node = p.node; scope = scope_of_place p; parent = above_id p.node p.path }
 
 entered_first : (p : Place) (more : List Step) → entered_nodes (entering p ∷ more) ≡ entry p ∷ entered_nodes more
 entered_first p more = by p.path

@@ -6,7 +6,7 @@ use Rattle.semantic_tree.specs.Forest.{Forest, nothing, tree, count, numbered}
 use Rattle.semantic_tree.specs.Children.{forest_of}
 use Rattle.semantic_tree.specs.declared.node.Node.{Node}
 use Rattle.semantic_tree.proofs.Forests.{below_same}
-use Rattle.semantic_model.specs.Place.{Place, OpenScope, at}
+use Rattle.semantic_model.specs.Place.{Place, OpenScope, scope_of_place}
 use Rattle.semantic_model.specs.Inside.{opens, is_inside, any_inside, header_roles, is_in_header, scopes_in}
 use Rattle.semantic_tree.specs.Views.{has_role}
 use Rattle.semantic_model.specs.ScopeKind.{opened_scope}
@@ -133,7 +133,7 @@ listed_parents l ps h =
 entered_lists : (p : Place) (e : Entered) → IsNext p e → (entered_at p e).list ≡ listed e.list (entered_nodes (entering p ∷ []))
 entered_lists p e h =
     (λ i. record {
-      nodes = e.list.nodes ++ (record { node = p.node; id = h.next i; scope = at p }) ∷ [];
+      nodes = e.list.nodes ++ (record { node = p.node; id = h.next i; scope = scope_of_place p }) ∷ [];
       parents = e.list.parents ++ e.current ∷ [];
       flags = e.list.flags ++ no_flags ∷ [];
     })
@@ -142,7 +142,7 @@ entered_lists p e h =
 -- and then its children come next
 pub entered_among : (p : Place) (e : Entered) → IsNext p e → IsAmong p p.node.children (entered_at p e)
 entered_among p e h =
-    let one : SeenNode = record { node = p.node; id = length e.list.nodes; scope = at p } in
+    let one : SeenNode = record { node = p.node; id = length e.list.nodes; scope = scope_of_place p } in
     let grown : length (e.list.nodes ++ one ∷ []) ≡ p.node.node_id + 1 = length-append e.list.nodes (one ∷ []) ∙ omega (arith, h.next) in
     let parents : length (e.list.parents ++ e.current ∷ []) ≡ p.node.node_id + 1 = length-append e.list.parents (e.current ∷ []) ∙ omega (arith, h.next, h.parents) in
     record {
@@ -166,7 +166,7 @@ module _ (p : Place) (own : Option OpenScope) (n cursor : ℕ) (child : Role × 
       let parts = below_same h.order in
       record {
         next = parts.1;
-        above = ap (λ (id : ℕ). (record { node = child.1; scope = at place; parent = id }) ∷ []) (sym h.current);
+        above = ap (λ (id : ℕ). (record { node = child.1; scope = scope_of_place place; parent = id }) ∷ []) (sym h.current);
         order = ap (λ (b : Forest). record child.1 { children = b }) (ap (λ m. numbered (m + 1) child.1.children) (sym parts.1) ∙ parts.0);
         parents = h.parents;
       }

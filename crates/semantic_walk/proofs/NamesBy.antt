@@ -129,7 +129,7 @@ entered_long kind.TSTypeAliasDeclaration p e h = ids_long p kind.TSTypeAliasDecl
 entered_long kind.TSInterfaceDeclaration p e h = ids_long p kind.TSInterfaceDeclaration _ e refl refl
 entered_long kind.TSEnumDeclaration p e h = enums_long p e
 entered_long kind.TSEnumMember p e h =
-    omega (arith, members_long p.node (children_of role.Id p.node.children), row_long (binder.declare p.node (record { flags = symbol.EnumMember.bits; excluded = symbol.EnumMemberExcludes.bits; how = plain; route = here p.chain }) false) (flat_map (member_named p.node) (children_of role.Id p.node.children)))
+    omega (arith, members_long p.node (children_of role.Id p.node.children), row_long (binder.declaration_at p.node (record { flags = symbol.EnumMember.bits; excluded = symbol.EnumMemberExcludes.bits; how = plain; route = here p.chain }) false) (flat_map (member_named p.node) (children_of role.Id p.node.children)))
 entered_long kind.TSNamespaceDeclaration p e h = namespace_long (instance_state p.node p.path (nodes_around p.node p.path)) p e
 entered_long kind.TSTypeParameter p e h = row_long _ (names_at role.Name p.node)
 entered_long kind.TSMappedType p e h = absurd (mapped_inside p.node e h)

@@ -132,7 +132,7 @@ module _ (w : Walker) (p : Place) (r : Role) (node : Node) (same : p.node ≡ no
       where
         by : (b : Bool) → ◌≡◌ {A = Walker} (cond b (taking_over (record w { made = opening_in w r node }) count) (record w { made = opening_in w r node }))
             (record w { made = act_all (open_scope w.made p own) (cond b (takes_over (innermost p.chain).number own.number ∷ []) []) })
-        by true = λ i. record w { made = record (opens_here i) { tables = writing.taken_over (opens_here i).tables (h.current i) count } }
+        by true = λ i. record w { made = record (opens_here i) { tables = writing.bindings_taken_over (opens_here i).tables (h.current i) count } }
         by false = λ i. record w { made = opens_here i }
 
     abbrev with_made : WalkState → Walker

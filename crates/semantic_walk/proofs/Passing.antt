@@ -11,7 +11,7 @@ use Rattle.semantic_tree.specs.Forest.{Forest, nothing, tree}
 use Rattle.semantic_tree.specs.Views.{is}
 use Rattle.semantic_tree.specs.declared.node.Node.{Node}
 use Rattle.semantic_model.specs.Binder.{declared_by}
-use Rattle.semantic_model.specs.Cursor.{on_entering, on_leaving, cursor_after, way_of}
+use Rattle.semantic_model.specs.Cursor.{on_entering, on_leaving, cursor_after, way_or_read}
 use Rattle.semantic_model.specs.Declaration.{Declaration}
 use Rattle.semantic_model.specs.Place.{Place, OpenScope}
 use Rattle.semantic_model.specs.Step.{Step, entering, leaving, steps_below, opening_last, ending_after, scope_at, next_at}
@@ -123,7 +123,7 @@ module _ (ds : List Declaration) (w : Walker) (p : Place) (n : ℕ) (coming : Is
       (sym (ap (λ b. cond b (record noted { made = add_eval noted.made noted.current }) noted) (no_eval p.node (ap (λ (k : AstType). same_kind k kind.CallExpression) one))))
       (λ within shown. sym (ap (λ (k : AstType). acting ds noted (declared_by k p)) one)) in
       sym (ap (λ (v : Walker). v.made) there)
-      ∙ ap (λ (k : AstType). refer_to w.made p.node.node_id p.node.text w.current (way_of (on_entering k w.cursor))) one
+      ∙ ap (λ (k : AstType). refer_to w.made p.node.node_id p.node.text w.current (way_or_read (on_entering k w.cursor))) one
 
   -- a walk over it but notes it, and uses the cursor up
   walks_past_reference : p.node.kind ≡ kind.IdentifierReference → walked_over ds w p None n ≡ record (referring w p.node) { cursor = 0 }

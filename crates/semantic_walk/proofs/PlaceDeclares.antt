@@ -83,28 +83,28 @@ mapped_inside node e h = by (is_known_inside node) (sym (ap (λ j. is_known_insi
 
 module _ (p : Place) where
   pub class_declares : p.node.kind ≡ kind.Class → is_statement p.node ≡ true
-      → declared_on_entering p ≡ map (binder.declare p.node (class_row p p.chain) false) (bound_names p.node)
+      → declared_on_entering p ≡ map (binder.declaration_at p.node (class_row p p.chain) false) (bound_names p.node)
   class_declares k s =
-      ap (λ j. declared_by j p) k ∙ ap (λ b. cond b (map (binder.declare p.node (class_row p p.chain) false) (ids p.node)) []) s
-      ∙ ap (map (binder.declare p.node (class_row p p.chain) false)) (sym (own_names p.node kind.Class k refl refl))
+      ap (λ j. declared_by j p) k ∙ ap (λ b. cond b (map (binder.declaration_at p.node (class_row p p.chain) false) (ids p.node)) []) s
+      ∙ ap (map (binder.declaration_at p.node (class_row p p.chain) false)) (sym (own_names p.node kind.Class k refl refl))
 
   pub class_opens : (own : OpenScope) → p.node.kind ≡ kind.Class → is_statement p.node ≡ false
-      → declared_on_opening p own ≡ map (binder.declare p.node (class_row p (own ∷ [])) false) (bound_names p.node)
+      → declared_on_opening p own ≡ map (binder.declaration_at p.node (class_row p (own ∷ [])) false) (bound_names p.node)
   class_opens own k s =
-      ap (λ j. declared_inside j p own) k ∙ ap (λ b. cond b [] (map (binder.declare p.node (class_row p (own ∷ [])) false) (ids p.node))) s
-      ∙ ap (map (binder.declare p.node (class_row p (own ∷ [])) false)) (sym (own_names p.node kind.Class k refl refl))
+      ap (λ j. declared_inside j p own) k ∙ ap (λ b. cond b [] (map (binder.declaration_at p.node (class_row p (own ∷ [])) false) (ids p.node))) s
+      ∙ ap (map (binder.declaration_at p.node (class_row p (own ∷ [])) false)) (sym (own_names p.node kind.Class k refl refl))
 
   pub function_declares : p.node.kind ≡ kind.Function → is_statement p.node ≡ true
-      → declared_on_entering p ≡ map (binder.declare p.node (function_row p) (has mark.Pure p.node)) (bound_names p.node)
+      → declared_on_entering p ≡ map (binder.declaration_at p.node (function_row p) (has mark.Pure p.node)) (bound_names p.node)
   function_declares k s =
-      ap (λ j. declared_by j p) k ∙ ap (λ b. cond b (map (binder.declare p.node (function_row p) (has mark.Pure p.node)) (ids p.node)) []) s
-      ∙ ap (map (binder.declare p.node (function_row p) (has mark.Pure p.node))) (sym (own_names p.node kind.Function k refl refl))
+      ap (λ j. declared_by j p) k ∙ ap (λ b. cond b (map (binder.declaration_at p.node (function_row p) (has mark.Pure p.node)) (ids p.node)) []) s
+      ∙ ap (map (binder.declaration_at p.node (function_row p) (has mark.Pure p.node))) (sym (own_names p.node kind.Function k refl refl))
 
   pub function_opens : (own : OpenScope) → p.node.kind ≡ kind.Function → is_statement p.node ≡ false
-      → declared_on_opening p own ≡ map (binder.declare p.node (own_function_row p own) (has mark.Pure p.node)) (bound_names p.node)
+      → declared_on_opening p own ≡ map (binder.declaration_at p.node (own_function_row p own) (has mark.Pure p.node)) (bound_names p.node)
   function_opens own k s =
-      ap (λ j. declared_inside j p own) k ∙ ap (λ b. cond b [] (map (binder.declare p.node (own_function_row p own) (has mark.Pure p.node)) (ids p.node))) s
-      ∙ ap (map (binder.declare p.node (own_function_row p own) (has mark.Pure p.node))) (sym (own_names p.node kind.Function k refl refl))
+      ap (λ j. declared_inside j p own) k ∙ ap (λ b. cond b [] (map (binder.declaration_at p.node (own_function_row p own) (has mark.Pure p.node)) (ids p.node))) s
+      ∙ ap (map (binder.declaration_at p.node (own_function_row p own) (has mark.Pure p.node))) (sym (own_names p.node kind.Function k refl refl))
 
   -- the names that are declared here are those that the node binds
   pub here_binds : (k : AstType) (flags excluded : ℕ) → p.node.kind ≡ k → same_kind k kind.BindingIdentifier ≡ false → binding_roles k ≡ role.Id ∷ []

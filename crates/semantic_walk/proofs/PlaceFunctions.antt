@@ -19,7 +19,7 @@ use Rattle.semantic_model.specs.Binder.{is_var, is_clause, is_statement, functio
 use Rattle.walk_model.specs.Shown.{ShowsChain, HasVar}
 use Rattle.walk_model.specs.NamedScopes.{IsStepNamed}
 use Rattle.node_rules.specs.declared.rows.Row.{Row}
-use Rattle.node_rules.specs.Seen.{IsRow, path_of, seen}
+use Rattle.node_rules.specs.Seen.{IsBinderRow, parent_path, seen}
 use Rattle.table_building.specs.Named.{named_by}
 use Rattle.semantic_walk.specs.Paths.{parent_in}
 use Rattle.semantic_walk.specs.Walker.{Walker}
@@ -32,19 +32,19 @@ use Rattle.semantic_walk.proofs.PlaceRows.{parent_tells, flags_told, row_at_acts
 -- what is seen of a function where the walk stands
 pub record IsSeen (w : Walker) (source : SourceType) (parent : Option AstKind) (flags : ScopeFlags) : Type 0 where
   pub source_is : source ≡ w.source_type
-  pub parent_is : path_of parent ≡ parent_in w.path
+  pub parent_is : parent_path parent ≡ parent_in w.path
   pub flags_are : flags ≡ (scope_of w.made.tables w.current).flags
 
 module _ (ds : List Declaration) (w : Walker) (p : Place) (function : AstKind) (parent : Option AstKind) (source : SourceType) (flags : ScopeFlags) (row : Row) (is_pure : Bool)
-    (e : p.node ≡ function.node.now) (sees : IsSeen w source parent flags) (same : IsRow row (function_flags function.node.now) (function_excluded (seen source function parent flags))) (pure : is_pure ≡ has mark.Pure function.node.now) where
+    (e : p.node ≡ function.node.now) (sees : IsSeen w source parent flags) (same : IsBinderRow row (function_flags function.node.now) (function_excluded (seen source function parent flags))) (pure : is_pure ≡ has mark.Pure function.node.now) where
   -- the names of a function expression, in its own scope
   pub function_inside : (own : OpenScope) → is_statement p.node ≡ false → IsWithin w p (own ∷ [])
-      → declaring w (map (named_by function.node.now row is_pure) (bound_names function.node.now)) ≡ acting ds w (map (binder.declare p.node (own_function_row p own) (has mark.Pure p.node)) (bound_names p.node))
+      → declaring w (map (named_by function.node.now row is_pure) (bound_names function.node.now)) ≡ acting ds w (map (binder.declaration_at p.node (own_function_row p own) (has mark.Pure p.node)) (bound_names p.node))
   function_inside own s within =
       let excluded : function_excluded (seen source function parent flags) ≡ function_excluded p =
       sym (excluded_alone p (seen source function parent flags) (sym (sees.source_is ∙ within.source_type)) e s) in
       row_at_acts ds w p (own ∷ []) function.node.now row is_pure function_flags (function_excluded p) bound_names e (record { flags = same.flags; excluded = same.excluded ∙ excluded }) within
-      ∙ ap (λ b. acting ds w (map (binder.declare p.node (own_function_row p own) b) (bound_names p.node))) (pure ∙ ap (has mark.Pure) (sym e))
+      ∙ ap (λ b. acting ds w (map (binder.declaration_at p.node (own_function_row p own) b) (bound_names p.node))) (pure ∙ ap (has mark.Pure) (sym e))
 
   -- an expression never moves
   pub never_moves : (m : Bool) → is_statement p.node ≡ false → m ≡ (is_statement function.node.now && is_block_function (seen source function None flags)) → m ≡ true → ⊥
@@ -65,7 +65,7 @@ module _ (ds : List Declaration) (w : Walker) (p : Place) (function : AstKind) (
         excluded_same there p (sees.source_is ∙ within.source_type) (sym e) (told scope.StrictMode.bits (flags_told w p scope.StrictMode.bits refl within shown some))
         (parent_tells w p p.chain within (is kind.IfStatement) parent sees.parent_is)
 
-    row_here : IsRow row (function_flags function.node.now) (function_excluded p)
+    row_here : IsBinderRow row (function_flags function.node.now) (function_excluded p)
     row_here = record { flags = same.flags; excluded = same.excluded ∙ excluded_here }
 
     -- what is seen says whether a function may move
@@ -81,37 +81,37 @@ module _ (ds : List Declaration) (w : Walker) (p : Place) (function : AstKind) (
 
     -- a function that stays where it is
     pub function_stays : is_block_function p ≡ false
-        → declaring w (map (named_by function.node.now row is_pure) (bound_names function.node.now)) ≡ acting ds w (map (binder.declare p.node (function_row p) (has mark.Pure p.node)) (bound_names p.node))
+        → declaring w (map (named_by function.node.now row is_pure) (bound_names function.node.now)) ≡ acting ds w (map (binder.declaration_at p.node (function_row p) (has mark.Pure p.node)) (bound_names p.node))
     function_stays h =
         row_at_acts ds w p p.chain function.node.now row is_pure function_flags (function_excluded p) bound_names e row_here within
-        ∙ ap (λ b. acting ds w (map (binder.declare p.node (record { flags = function_flags p.node; excluded = function_excluded p; how = plain; route = here p.chain }) b) (bound_names p.node))) (pure ∙ ap (has mark.Pure) (sym e))
-        ∙ ap (λ (r : binder.Row). acting ds w (map (binder.declare p.node r (has mark.Pure p.node)) (bound_names p.node))) (sym stays)
+        ∙ ap (λ b. acting ds w (map (binder.declaration_at p.node (record { flags = function_flags p.node; excluded = function_excluded p; how = plain; route = here p.chain }) b) (bound_names p.node))) (pure ∙ ap (has mark.Pure) (sym e))
+        ∙ ap (λ (r : binder.BinderRow). acting ds w (map (binder.declaration_at p.node r (has mark.Pure p.node)) (bound_names p.node))) (sym stays)
       where
         stays : function_row p ≡ record { flags = function_flags p.node; excluded = function_excluded p; how = plain; route = here p.chain }
         stays = rw h refl
 
-    abbrev goes : binder.Row
+    abbrev goes : binder.BinderRow
     goes = record { flags = function_flags p.node; excluded = function_excluded p; how = moved; route = outward_past is_var p.chain }
 
     -- one that may move
     pub function_moves : IsStepNamed ds w.namesakes (entering p) → is_block_function p ≡ true
-        → moving w (map (named_by function.node.now row is_pure) (bound_names function.node.now)) ≡ acting ds w (map (binder.declare p.node (function_row p) (has mark.Pure p.node)) (bound_names p.node))
+        → moving w (map (named_by function.node.now row is_pure) (bound_names function.node.now)) ≡ acting ds w (map (binder.declaration_at p.node (function_row p) (has mark.Pure p.node)) (bound_names p.node))
     function_moves named h =
         ap (λ (n : Node). moving w (map (named_by n row is_pure) (bound_names n))) (sym e)
         ∙ moved_acts ds p.node row (function_row p) is_pure p.chain row_moved how route (block_is_inner p h) some w (bound_names p.node) within.current shown (named h)
-        ∙ ap (λ b. acting ds w (map (binder.declare p.node (function_row p) b) (bound_names p.node))) (pure ∙ ap (has mark.Pure) (sym e))
+        ∙ ap (λ b. acting ds w (map (binder.declaration_at p.node (function_row p) b) (bound_names p.node))) (pure ∙ ap (has mark.Pure) (sym e))
       where
         moves : function_row p ≡ goes
         moves = rw h refl
 
-        row_moved : IsRow row (function_row p).flags (function_row p).excluded
+        row_moved : IsBinderRow row (function_row p).flags (function_row p).excluded
         row_moved = record {
-          flags = same.flags ∙ ap function_flags (sym e) ∙ ap (λ (r : binder.Row). r.flags) (sym moves);
-          excluded = same.excluded ∙ excluded_here ∙ ap (λ (r : binder.Row). r.excluded) (sym moves);
+          flags = same.flags ∙ ap function_flags (sym e) ∙ ap (λ (r : binder.BinderRow). r.flags) (sym moves);
+          excluded = same.excluded ∙ excluded_here ∙ ap (λ (r : binder.BinderRow). r.excluded) (sym moves);
         }
 
         how : (function_row p).how ≡ moved
-        how = ap (λ (r : binder.Row). r.how) moves
+        how = ap (λ (r : binder.BinderRow). r.how) moves
 
         route : (function_row p).route ≡ outward_past is_var p.chain
-        route = ap (λ (r : binder.Row). r.route) moves
+        route = ap (λ (r : binder.BinderRow). r.route) moves

@@ -20,7 +20,7 @@ use Rattle.semantic_model.specs.Place.{Place, OpenScope, no_scope, innermost, pa
 use Rattle.semantic_model.specs.Declaration.{Declaration, plain, hoisted, caught, here, outward_to}
 use Rattle.semantic_model.specs.Event.{declares, placed, declares_all}
 use Rattle.semantic_model.specs.Binder as binder
-use Rattle.semantic_model.specs.Binder.{declare_here, ids, is_var, is_conditional, is_clause, is_statement, marked_ambient, lexical_flags, variable_row, variables_under, is_pure_declarator, is_block_function, function_row, own_function_row, parameter_excluded, parameters_under, import_flags, imports, catch_names, member_named, member_names, named_member, type_parameter_route, type_parameter_row, namespace_row, declared_by, declared_on_entering}
+use Rattle.semantic_model.specs.Binder.{declare_here, ids, is_var, is_conditional, is_clause, is_statement, marked_ambient, lexical_flags, variable_row, variables_under, is_pure_declarator, is_block_function, function_row, own_function_row, parameter_excluded, parameters_under, import_flags, import_declarations, catch_names, member_named, member_names, named_member, type_parameter_route, type_parameter_row, namespace_row, declared_by, declared_on_entering}
 use Rattle.walk_model.specs.WalkState.{WalkState}
 use Rattle.walk_model.specs.Declares.{declare, declare_anew}
 use Rattle.walk_model.specs.Shown.{IsOther, ShowsChain, HasVar}
@@ -28,7 +28,7 @@ use Rattle.walk_model.specs.Walks.{act_all}
 use Rattle.walk_model.proofs.turns.RowEvents.{acts-append}
 use Rattle.walk_model.proofs.turns.ChainWays.{flags_at}
 use Rattle.node_rules.specs.declared.rows.Row.{Row}
-use Rattle.node_rules.specs.Seen.{IsRow, path_of, under}
+use Rattle.node_rules.specs.Seen.{IsBinderRow, parent_path, seen_under}
 use Rattle.table_building.specs.Named.{named_by, member_naming, caught_naming, pattern_naming}
 use Rattle.semantic_walk.specs.Paths.{parent_in}
 use Rattle.semantic_walk.specs.Walker.{Walker}
@@ -65,7 +65,7 @@ module _ (w : Walker) (p : Place) (chain : List OpenScope) (within : IsWithin w 
   pub path_tells : (test : Node → Bool) → parent_holds test (parent_in w.path) ≡ parent_holds test p.path
   path_tells test = ap (parent_holds test) parent_of ∙ holds_first test p.path
 
-  pub parent_tells : (test : Node → Bool) (parent : Option AstKind) → path_of parent ≡ parent_in w.path → parent_holds test (path_of parent) ≡ parent_holds test p.path
+  pub parent_tells : (test : Node → Bool) (parent : Option AstKind) → parent_path parent ≡ parent_in w.path → parent_holds test (parent_path parent) ≡ parent_holds test p.path
   parent_tells test parent e = ap (parent_holds test) e ∙ path_tells test
 
 -- where the tables show the chain, the flags of its innermost scope are told
@@ -75,15 +75,15 @@ flags_told w p bits o within shown some =
     ap (λ n. meets (scope_of w.made.tables n).flags.bits bits) within.current ∙ flags_at w.made.tables bits p.chain o shown (some_scope p.chain some)
 
 -- a row of the definition whose names are declared where a scope is innermost
-abbrev pub row_at : ℕ → ℕ → List OpenScope → binder.Row
+abbrev pub row_at : ℕ → ℕ → List OpenScope → binder.BinderRow
 row_at flags excluded chain = record { flags = flags; excluded = excluded; how = plain; route = here chain }
 
 -- what a row gives to the names of a node is declared in the current scope
 pub row_at_acts : (ds : List Declaration) (w : Walker) (p : Place) (chain : List OpenScope) (node : Node) (row : Row) (is_pure : Bool) (flags : Node → ℕ) (excluded : ℕ) (names : Node → List Node)
-    → p.node ≡ node → IsRow row (flags node) excluded → IsWithin w p chain
-    → declaring w (map (named_by node row is_pure) (names node)) ≡ acting ds w (map (binder.declare p.node (row_at (flags p.node) excluded chain) is_pure) (names p.node))
+    → p.node ≡ node → IsBinderRow row (flags node) excluded → IsWithin w p chain
+    → declaring w (map (named_by node row is_pure) (names node)) ≡ acting ds w (map (binder.declaration_at p.node (row_at (flags p.node) excluded chain) is_pure) (names p.node))
 row_at_acts ds w p chain node row is_pure flags excluded names e same within =
-    subst (λ (n : Node). IsRow row (flags n) excluded → declaring w (map (named_by n row is_pure) (names n)) ≡ acting ds w (map (binder.declare p.node (row_at (flags p.node) excluded chain) is_pure) (names p.node))) e
+    subst (λ (n : Node). IsBinderRow row (flags n) excluded → declaring w (map (named_by n row is_pure) (names n)) ≡ acting ds w (map (binder.declaration_at p.node (row_at (flags p.node) excluded chain) is_pure) (names p.node))) e
     (λ s. row_acts p.node row (row_at (flags p.node) excluded chain) is_pure s ds w (names p.node) refl within.current) same
 
 -- so the walk goes on from what is known of it
@@ -103,21 +103,21 @@ same_head x y e = cc
 
 module _ (ds : List Declaration) (w : Walker) (p : Place) (node declaration : Node) (row : Row) (is_pure : Bool)
     (e : p.node ≡ node) (within : IsWithin w p p.chain) (parent : declaration ∷ [] ≡ parent_in w.path) (pure : is_pure ≡ is_pure_declarator node) where
-  under_it : (r : binder.Row) → variable_row declaration p.chain ≡ r → map (binder.declare p.node r is_pure) (bound_names p.node) ≡ variables_under p.path p
+  under_it : (r : binder.BinderRow) → variable_row declaration p.chain ≡ r → map (binder.declaration_at p.node r is_pure) (bound_names p.node) ≡ variables_under p.path p
   under_it r is = go p.path (parent ∙ parent_of w p p.chain within)
     where
-      go : (path : List Node) → declaration ∷ [] ≡ first_alone path → map (binder.declare p.node r is_pure) (bound_names p.node) ≡ variables_under path p
+      go : (path : List Node) → declaration ∷ [] ≡ first_alone path → map (binder.declaration_at p.node r is_pure) (bound_names p.node) ≡ variables_under path p
       go [] h = absurd (no h)
         where
           no : declaration ∷ [] ≡ [] → ⊥
           no q = cc
       go (d ∷ path) h =
-          ap (λ b. map (binder.declare p.node r b) (bound_names p.node)) (pure ∙ ap is_pure_declarator (sym e))
-          ∙ ap (λ (q : binder.Row). map (binder.declare p.node q (is_pure_declarator p.node)) (bound_names p.node)) (sym is ∙ ap (λ (x : Node). variable_row x p.chain) (same_head declaration d h))
+          ap (λ b. map (binder.declaration_at p.node r b) (bound_names p.node)) (pure ∙ ap is_pure_declarator (sym e))
+          ∙ ap (λ (q : binder.BinderRow). map (binder.declaration_at p.node q (is_pure_declarator p.node)) (bound_names p.node)) (sym is ∙ ap (λ (x : Node). variable_row x p.chain) (same_head declaration d h))
 
   -- the variables of a `var`
   pub var_under : ShowsChain w.made.tables p.chain → HasVar p.chain → is_with_text kind.VariableDeclaration (codes "var") declaration ≡ true
-      → IsRow row (union symbol.FunctionScopedVariable.bits (marked_ambient declaration)) symbol.FunctionScopedVariableExcludes.bits
+      → IsBinderRow row (union symbol.FunctionScopedVariable.bits (marked_ambient declaration)) symbol.FunctionScopedVariableExcludes.bits
       → hoisting w scope.Var.bits (map (named_by node row is_pure) (bound_names node)) ≡ acting ds w (variables_under p.path p)
   var_under shown some is same =
       ap (λ (n : Node). hoisting w scope.Var.bits (map (named_by n row is_pure) (bound_names n))) (sym e)
@@ -126,7 +126,7 @@ module _ (ds : List Declaration) (w : Walker) (p : Place) (node declaration : No
 
   -- and those of another declaration
   pub lexical_under : is_with_text kind.VariableDeclaration (codes "var") declaration ≡ false
-      → IsRow row (union (lexical_flags declaration) (marked_ambient declaration)) symbol.BlockScopedVariableExcludes.bits
+      → IsBinderRow row (union (lexical_flags declaration) (marked_ambient declaration)) symbol.BlockScopedVariableExcludes.bits
       → declaring w (map (named_by node row is_pure) (bound_names node)) ≡ acting ds w (variables_under p.path p)
   lexical_under is same =
       row_at_acts ds w p p.chain node row is_pure (λ n. union (lexical_flags declaration) (marked_ambient declaration)) symbol.BlockScopedVariableExcludes.bits bound_names e same within
@@ -153,18 +153,18 @@ module _ (ds : List Declaration) (p : Place) where
 
   caught_names : (w : WalkState) (names : List Node) (parameter : Node)
       → declare_each w home (map (pattern_naming parameter) names)
-      ≡ act_all w (declares_all ds (map (binder.declare parameter (row_at (union symbol.BlockScopedVariable.bits symbol.CatchVariable.bits) symbol.BlockScopedVariableExcludes.bits p.chain) false) names))
+      ≡ act_all w (declares_all ds (map (binder.declaration_at parameter (row_at (union symbol.BlockScopedVariable.bits symbol.CatchVariable.bits) symbol.BlockScopedVariableExcludes.bits p.chain) false) names))
   caught_names w [] parameter = refl
   caught_names w (x ∷ xs) parameter = caught_names (declare w home (pattern_naming parameter x)) xs parameter
 
   pattern_acts : (w : WalkState) (pattern : Node) → declare_pattern w home p.node pattern ≡ act_all w (declares_all ds (catch_names p pattern))
   pattern_acts w pattern = by (is kind.BindingIdentifier pattern)
     where
-      row : binder.Row
+      row : binder.BinderRow
       row = record { flags = union symbol.FunctionScopedVariable.bits symbol.CatchVariable.bits; excluded = 0; how = caught; route = here p.chain }
 
       by : (b : Bool) → cond b (declare_anew w home (caught_naming p.node pattern)) (declare_each w home (map (pattern_naming p.node) (bound_names pattern)))
-          ≡ act_all w (declares_all ds (if b then binder.declare p.node row false pattern ∷ [] else declare_here p (union symbol.BlockScopedVariable.bits symbol.CatchVariable.bits) symbol.BlockScopedVariableExcludes.bits (bound_names pattern)))
+          ≡ act_all w (declares_all ds (if b then binder.declaration_at p.node row false pattern ∷ [] else declare_here p (union symbol.BlockScopedVariable.bits symbol.CatchVariable.bits) symbol.BlockScopedVariableExcludes.bits (bound_names pattern)))
       by true = refl
       by false = caught_names w (bound_names pattern) p.node
 
@@ -174,21 +174,21 @@ module _ (ds : List Declaration) (p : Place) where
       ap (λ v. declare_patterns v home p.node xs) (pattern_acts w x) ∙ patterns_act (act_all w (declares_all ds (catch_names p x))) xs
       ∙ sym (acts_both w (catch_names p x) (flat_map (catch_names p) xs))
 
-  abbrev member_row : binder.Row
+  abbrev member_row : binder.BinderRow
   member_row = row_at symbol.EnumMember.bits symbol.EnumMemberExcludes.bits p.chain
 
   id_acts : (w : WalkState) (id : Node) (names : List Node)
-      → declare_each w home (map (member_naming p.node id) names) ≡ act_all w (declares_all ds (map (binder.declare p.node member_row false) (map (named_member p.node id) names)))
+      → declare_each w home (map (member_naming p.node id) names) ≡ act_all w (declares_all ds (map (binder.declaration_at p.node member_row false) (map (named_member p.node id) names)))
   id_acts w id [] = refl
   id_acts w id (x ∷ xs) = id_acts (declare w home (member_naming p.node id x)) id xs
 
-  pub ids_act : (w : WalkState) (found : List Node) → declare_members w home p.node found ≡ act_all w (declares_all ds (map (binder.declare p.node member_row false) (flat_map (member_named p.node) found)))
+  pub ids_act : (w : WalkState) (found : List Node) → declare_members w home p.node found ≡ act_all w (declares_all ds (map (binder.declaration_at p.node member_row false) (flat_map (member_named p.node) found)))
   ids_act w [] = refl
   ids_act w (x ∷ xs) =
       ap (λ v. declare_members v home p.node xs) (id_acts w x (member_names x))
-      ∙ ids_act (act_all w (declares_all ds (map (binder.declare p.node member_row false) (member_named p.node x)))) xs
-      ∙ sym (ap (λ new. act_all w (declares_all ds new)) (map-append (binder.declare p.node member_row false) (member_named p.node x) (flat_map (member_named p.node) xs))
-      ∙ acts_both w (map (binder.declare p.node member_row false) (member_named p.node x)) (map (binder.declare p.node member_row false) (flat_map (member_named p.node) xs)))
+      ∙ ids_act (act_all w (declares_all ds (map (binder.declaration_at p.node member_row false) (member_named p.node x)))) xs
+      ∙ sym (ap (λ new. act_all w (declares_all ds new)) (map-append (binder.declaration_at p.node member_row false) (member_named p.node x) (flat_map (member_named p.node) xs))
+      ∙ acts_both w (map (binder.declaration_at p.node member_row false) (member_named p.node x)) (map (binder.declaration_at p.node member_row false) (flat_map (member_named p.node) xs)))
 
 -- what a parameter of a list conflicts with, by the flags of its scope
 abbrev excluded_in : Node → Bool → ℕ
@@ -200,14 +200,14 @@ excluded_in list strict =
 module _ (ds : List Declaration) (w : Walker) (p : Place) (within : IsWithin w p p.chain) where
   -- a parameter of a list
   pub parameter_under : (node list : Node) (row : Row) (flags : ℕ) → p.node ≡ node → ShowsChain w.made.tables p.chain → HasVar p.chain → list ∷ [] ≡ parent_in w.path
-      → flags ≡ (scope_of w.made.tables w.current).flags.bits → IsRow row symbol.FunctionScopedVariable.bits (parameter_excluded list (record no_scope { flags = flags } ∷ []))
+      → flags ≡ (scope_of w.made.tables w.current).flags.bits → IsBinderRow row symbol.FunctionScopedVariable.bits (parameter_excluded list (record no_scope { flags = flags } ∷ []))
       → declaring w (map (named_by node row false) (bound_names node)) ≡ acting ds w (parameters_under p.path p)
   parameter_under node list row flags e shown some parent f same = go p.path (parent ∙ parent_of w p p.chain within)
     where
       strict : parameter_excluded list (record no_scope { flags = flags } ∷ []) ≡ parameter_excluded list p.chain
       strict = ap (λ b. excluded_in list b) (ap (λ n. meets n scope.StrictMode.bits) f ∙ flags_told w p scope.StrictMode.bits refl within shown some)
 
-      row_is : IsRow row symbol.FunctionScopedVariable.bits (parameter_excluded list p.chain)
+      row_is : IsBinderRow row symbol.FunctionScopedVariable.bits (parameter_excluded list p.chain)
       row_is = record { flags = same.flags; excluded = same.excluded ∙ strict }
 
       go : (path : List Node) → list ∷ [] ≡ first_alone path → declaring w (map (named_by node row false) (bound_names node)) ≡ acting ds w (parameters_under path p)
@@ -230,7 +230,7 @@ module _ (ds : List Declaration) (w : Walker) (p : Place) (within : IsWithin w p
           no q = cc
 
   -- a rest element declares in a list of parameters alone
-  pub rest_in_list : (node : Node) (row : Row) → p.node ≡ node → p.node.kind ≡ kind.BindingRestElement → parent_holds (is kind.FormalParameters) (parent_in w.path) ≡ true → IsRow row symbol.FunctionScopedVariable.bits (union symbol.FunctionScopedVariableExcludes.bits symbol.FunctionScopedVariable.bits)
+  pub rest_in_list : (node : Node) (row : Row) → p.node ≡ node → p.node.kind ≡ kind.BindingRestElement → parent_holds (is kind.FormalParameters) (parent_in w.path) ≡ true → IsBinderRow row symbol.FunctionScopedVariable.bits (union symbol.FunctionScopedVariableExcludes.bits symbol.FunctionScopedVariable.bits)
       → declaring w (map (named_by node row false) (bound_names node)) ≡ acting ds w (declared_on_entering p)
   rest_in_list node row e k h same =
       row_at_acts ds w p p.chain node row false (λ n. symbol.FunctionScopedVariable.bits) (union symbol.FunctionScopedVariableExcludes.bits symbol.FunctionScopedVariable.bits) bound_names e same within
@@ -246,31 +246,31 @@ module _ (ds : List Declaration) (w : Walker) (p : Place) (within : IsWithin w p
       ∙ ap (λ j. acting ds w (declared_by j p)) (sym k)
 
   -- an imported name
-  pub import_acts : (kind_seen : AstKind) (row : Row) (parent : Option AstKind) → p.node ≡ kind_seen.node.now → path_of parent ≡ parent_in w.path
-      → IsRow row (import_flags (under kind_seen parent)) symbol.ImportBindingExcludes.bits
-      → declaring w (map (named_by kind_seen.node.now row false) (names_at role.Local kind_seen.node.now)) ≡ acting ds w (imports p)
+  pub import_acts : (kind_seen : AstKind) (row : Row) (parent : Option AstKind) → p.node ≡ kind_seen.node.now → parent_path parent ≡ parent_in w.path
+      → IsBinderRow row (import_flags (seen_under kind_seen parent)) symbol.ImportBindingExcludes.bits
+      → declaring w (map (named_by kind_seen.node.now row false) (names_at role.Local kind_seen.node.now)) ≡ acting ds w (import_declarations p)
   import_acts kind_seen row parent e q same =
-      row_at_acts ds w p p.chain kind_seen.node.now row false (λ n. cond (has mark.TypeOnly n || parent_holds (has mark.TypeOnly) (path_of parent)) symbol.TypeImport.bits symbol.Import.bits) symbol.ImportBindingExcludes.bits (names_at role.Local) e same within
+      row_at_acts ds w p p.chain kind_seen.node.now row false (λ n. cond (has mark.TypeOnly n || parent_holds (has mark.TypeOnly) (parent_path parent)) symbol.TypeImport.bits symbol.Import.bits) symbol.ImportBindingExcludes.bits (names_at role.Local) e same within
       ∙ ap (λ b. acting ds w (declare_here p (cond (has mark.TypeOnly p.node || b) symbol.TypeImport.bits symbol.Import.bits) symbol.ImportBindingExcludes.bits (names_at role.Local p.node)))
       (parent_tells w p p.chain within (has mark.TypeOnly) parent q)
 
   -- a type parameter that stays
-  pub parameter_stays : (node : Node) (row : Row) → p.node ≡ node → p.node.kind ≡ kind.TSTypeParameter → parent_holds (is kind.TSInferType) (parent_in w.path) ≡ false → IsRow row symbol.TypeParameter.bits symbol.TypeParameterExcludes.bits
+  pub parameter_stays : (node : Node) (row : Row) → p.node ≡ node → p.node.kind ≡ kind.TSTypeParameter → parent_holds (is kind.TSInferType) (parent_in w.path) ≡ false → IsBinderRow row symbol.TypeParameter.bits symbol.TypeParameterExcludes.bits
       → declaring w (map (named_by node row false) (names_at role.Name node)) ≡ acting ds w (declared_on_entering p)
   parameter_stays node row e k h same =
       row_at_acts ds w p p.chain node row false (λ n. symbol.TypeParameter.bits) symbol.TypeParameterExcludes.bits (names_at role.Name) e same within
-      ∙ ap (λ b. acting ds w (map (binder.declare p.node (type_parameter_row (cond b (outward_to is_conditional p.chain) (here p.chain))) false) (names_at role.Name p.node)))
+      ∙ ap (λ b. acting ds w (map (binder.declaration_at p.node (type_parameter_row (cond b (outward_to is_conditional p.chain) (here p.chain))) false) (names_at role.Name p.node)))
       (sym (sym (path_tells w p p.chain within (is kind.TSInferType)) ∙ h))
       ∙ ap (λ j. acting ds w (declared_by j p)) (sym k)
 
   -- one that `infer` declares goes out
   pub parameter_goes : (node : Node) (row : Row) → p.node ≡ node → p.node.kind ≡ kind.TSTypeParameter → ShowsChain w.made.tables p.chain → HasVar p.chain
-      → parent_holds (is kind.TSInferType) (parent_in w.path) ≡ true → IsRow row symbol.TypeParameter.bits symbol.TypeParameterExcludes.bits
+      → parent_holds (is kind.TSInferType) (parent_in w.path) ≡ true → IsBinderRow row symbol.TypeParameter.bits symbol.TypeParameterExcludes.bits
       → declaring_past w scope.TsConditional.bits (map (named_by node row false) (names_at role.Name node)) ≡ acting ds w (declared_on_entering p)
   parameter_goes node row e k shown some h same =
       ap (λ (n : Node). declaring_past w scope.TsConditional.bits (map (named_by n row false) (names_at role.Name n))) (sym e)
       ∙ inferred_acts ds w p within shown some row symbol.TypeParameter.bits symbol.TypeParameterExcludes.bits (names_at role.Name p.node) same
-      ∙ ap (λ b. acting ds w (map (binder.declare p.node (type_parameter_row (cond b (outward_to is_conditional p.chain) (here p.chain))) false) (names_at role.Name p.node)))
+      ∙ ap (λ b. acting ds w (map (binder.declaration_at p.node (type_parameter_row (cond b (outward_to is_conditional p.chain) (here p.chain))) false) (names_at role.Name p.node)))
       (sym (sym (path_tells w p p.chain within (is kind.TSInferType)) ∙ h))
       ∙ ap (λ j. acting ds w (declared_by j p)) (sym k)
 

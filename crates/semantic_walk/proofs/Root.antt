@@ -14,7 +14,7 @@ use Rattle.walk_model.specs.WalkState.{WalkState}
 use Rattle.walk_model.specs.Walks.{walked}
 use Rattle.walk_model.proofs.turns.Seats.{root_is_program}
 use Rattle.class_table.specs.Lists.{ClassLists}
-use Rattle.class_table.specs.Noted.{left}
+use Rattle.class_table.specs.Noted.{class_left}
 use Rattle.class_table.specs.declared.builder.ClassTableBuilder.{ClassTableBuilder}
 use Rattle.walk_notes.specs.NoteLists.{NoteLists, nothing_noted, noting, noted_inside}
 use Rattle.walk_notes.proofs.WholeProgram.{program_classes}
@@ -37,7 +37,7 @@ use Rattle.semantic_walk.proofs.Beginning.{root_within, walk_ends, checks_note}
 use Rattle.semantic_walk.proofs.Leaves.{handed_at}
 
 -- no class is left with a program
-left_program : (k : AstType) (b : ClassTableBuilder) → k ≡ kind.Program → left k b ≡ b
+left_program : (k : AstType) (b : ClassTableBuilder) → k ≡ kind.Program → class_left k b ≡ b
 left_program k b e = rw e refl
 
 -- when the root is left, the elements of all classes are noted
@@ -93,12 +93,12 @@ module _ (program : Tree) (fits : first_fault program ≡ None) (numbered : IsNu
 
   -- so behind the root all is told, but for the conflicts that are left
   pub tells_all : (x : Walker) → x ≡ left_at u root → so_far (telling_of x) ≡ diagnostics_of settings.checks program
-  tells_all x left =
+  tells_all x class_left =
       let checks : Bool = settings.checks in
       let source : List ℕ = encode_utf8_all program.source in
       let first : Walker = begun program w.states w.namesakes settings.build_nodes (notes_classes settings) checks in
       let whole : Telling = record (telling_within checks program) { made = walked program } in
-      ap (λ (y : Walker). so_far (telling_of y)) (left ∙ ap (λ (y : Walker). left_at y root) last)
+      ap (λ (y : Walker). so_far (telling_of y)) (class_left ∙ ap (λ (y : Walker). left_at y root) last)
       ∙ ap (λ (m : WalkState). so_far (telling_of (left_at (record v { made = m }) root))) settled
       ∙ ap (λ (y : Walker). so_far (telling_of (left_at (record y { made = walked program }) root))) from_start
       ∙ ap so_far (leaving_parts checks source (written_declarations (steps program)) whole root)

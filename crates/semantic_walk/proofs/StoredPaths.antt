@@ -7,7 +7,7 @@ use Rattle.semantic_tree.specs.declared.node.Node.{Node}
 use Rattle.semantic_model.specs.Cursor.{on_entering}
 use Rattle.semantic_model.specs.Inside.{opens, is_inside, any_inside, header_roles, is_in_header}
 use Rattle.semantic_tree.specs.Views.{has_role}
-use Rattle.semantic_model.specs.Place.{Place, OpenScope, at}
+use Rattle.semantic_model.specs.Place.{Place, OpenScope, scope_of_place}
 use Rattle.semantic_model.specs.ScopeKind.{opened_scope}
 use Rattle.semantic_model.specs.Step.{Step, entering, opening, header_ending, closing, leaving, steps_below, opening_at, ending_after, opening_last, scope_at, next_at, child_place, root_place, steps}
 use Rattle.node_store.specs.Store.{path_to, after_entering}
@@ -116,14 +116,14 @@ follows s (step ∷ more) h k =
     (rest.0, rest.1 ∙ ap (λ (l : List Node). path_after l more) path)
   where
     one : (step : Step) → StandsAt (path_to s) step → IsFollowing (stored_past s step)
-    one (entering p) stands = enters_following s p.node (at p) h
+    one (entering p) stands = enters_following s p.node (scope_of_place p) h
     one (leaving p) stands = leaves_following s h
     one (opening p c) stands = h
     one (header_ending p c) stands = h
     one (closing p c) stands = h
 
     turn : (step : Step) → StandsAt (path_to s) step → path_to (stored_past s step) ≡ path_past (path_to s) step
-    turn (entering p) stands = enters_path s p.node (at p) h
+    turn (entering p) stands = enters_path s p.node (scope_of_place p) h
     turn (leaving p) stands = leaves_path s h stands
     turn (opening p c) stands = refl
     turn (header_ending p c) stands = refl
@@ -157,7 +157,7 @@ begins : (keeps : Bool) → IsFollowing (empty_store keeps) × (path_to (empty_s
 begins true = (record { stands = (omega arith, refl); listed = record { with_parents = refl; before = λ n l. omega (arith, l) } }, refl)
 begins false = (record { stands = omega arith; listed = tt }, refl)
 
-stored_last : (s : AstNodeStore) (done : List Step) (p : Place) → stored_after s (done ++ entering p ∷ []) ≡ after_entering (stored_after s done) p.node (at p)
+stored_last : (s : AstNodeStore) (done : List Step) (p : Place) → stored_after s (done ++ entering p ∷ []) ≡ after_entering (stored_after s done) p.node (scope_of_place p)
 stored_last s [] p = refl
 stored_last s (d ∷ done) p = stored_last (stored_past s d) done p
 
@@ -173,5 +173,5 @@ stored_path program keeps done more p split =
     let start = begins keeps in
     let followed = follows s done start.0 (subst (λ (l : List Node). AllStand l done) (sym start.1) here.0) in
     ap path_to (stored_last s done p)
-    ∙ enters_path (stored_after s done) p.node (at p) followed.0
+    ∙ enters_path (stored_after s done) p.node (scope_of_place p) followed.0
     ∙ ap (λ (l : List Node). p.node ∷ l) (followed.1 ∙ ap (λ (l : List Node). path_after l done) start.1 ∙ here.1.0)

@@ -9,7 +9,7 @@ use Rattle.semantic_tree.specs.Nodes.{first_of}
 use Rattle.semantic_tree.specs.Views.{is}
 use Rattle.semantic_tree.specs.declared.node.Node.{Node}
 use Rattle.semantic_tree.specs.declared.view.AstKind.{AstKind}
-use Rattle.node_rules.specs.Seen.{path_of}
+use Rattle.node_rules.specs.Seen.{parent_path}
 use Rattle.semantic_walk.specs.Paths.{parent_in, ends_with_list, lists_simple}
 
 with_first : (path : List Node) (node : Node) → reverse (node ∷ path) ≡ reverse path ++ node ∷ []
@@ -82,7 +82,7 @@ two_first x y path = with_first (y ∷ path) x ∙ ap (λ (l : List Node). l ++ 
 second : (x y : Node) (path : List Node) → parent_in (reverse (x ∷ y ∷ path)) ≡ y ∷ []
 second x y path = ap parent_in (two_first x y path) ∙ second_last (reverse path) y x
 
-pub parent_is : (parent : Option AstKind) (path : List Node) → option_map shown parent ≡ first_of (drop 1 path) → path_of parent ≡ parent_in (reverse path)
+pub parent_is : (parent : Option AstKind) (path : List Node) → option_map shown parent ≡ first_of (drop 1 path) → parent_path parent ≡ parent_in (reverse path)
 parent_is None [] h = refl
 parent_is None (x ∷ []) h = refl
 parent_is None (x ∷ y ∷ path) h = absurd cc

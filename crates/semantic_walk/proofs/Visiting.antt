@@ -13,7 +13,7 @@ use Rattle.semantic_tree.specs.Limits.{source_limit}
 use Rattle.semantic_tree.specs.Children.{forest_of}
 use Rattle.semantic_tree.specs.declared.node.Node.{Node}
 use Rattle.semantic_model.specs.Namespace.{InstanceState}
-use Rattle.semantic_model.specs.Place.{Place, OpenScope, at}
+use Rattle.semantic_model.specs.Place.{Place, OpenScope, scope_of_place}
 use Rattle.semantic_model.specs.Inside.{opens, is_inside, is_parameter_decorator, scopes_in}
 use Rattle.semantic_model.specs.Ambient.{ambient_inside, ambient_round}
 use Rattle.semantic_model.specs.Cursor.{cursor_before, cursor_behind, cursor_after, on_entering}
@@ -23,7 +23,7 @@ use Rattle.semantic_model.proofs.form.Clauses.{kind_is}
 use Rattle.semantic_model.proofs.lists.Members.{among_left, among_right}
 use Rattle.walk_model.specs.WalkState.{WalkState}
 use Rattle.walk_model.specs.Walks.{after, after_all}
-use Rattle.walk_model.specs.WrittenNames.{Written}
+use Rattle.walk_model.specs.WrittenNames.{WrittenName}
 use Rattle.walk_model.specs.Waits.{HoldsAt, start_at}
 use Rattle.walk_model.specs.NamedScopes.{IsStepNamed, AllNamed}
 use Rattle.walk_model.specs.Recursion.{IsReady, IsBetween}
@@ -72,11 +72,11 @@ same_walker w v made source_type states namesakes path current cursor is_ambient
   counted = counted i;
 }
 
-named_left : (ds : List Declaration) (ws : List Written) (xs ys : List Step) → AllNamed ds ws (xs ++ ys) → AllNamed ds ws xs
+named_left : (ds : List Declaration) (ws : List WrittenName) (xs ys : List Step) → AllNamed ds ws (xs ++ ys) → AllNamed ds ws xs
 named_left ds ws [] ys h = tt
 named_left ds ws (x ∷ xs) ys h = (h.0, named_left ds ws xs ys h.1)
 
-named_right : (ds : List Declaration) (ws : List Written) (xs ys : List Step) → AllNamed ds ws (xs ++ ys) → AllNamed ds ws ys
+named_right : (ds : List Declaration) (ws : List WrittenName) (xs ys : List Step) → AllNamed ds ws (xs ++ ys) → AllNamed ds ws ys
 named_right ds ws [] ys h = h
 named_right ds ws (x ∷ xs) ys h = named_right ds ws xs ys h.1
 
@@ -95,11 +95,11 @@ path_without xs x = take_at xs (x ∷ []) (length (xs ++ x ∷ []) - 1) (omega (
 
 -- the walk at a child, before which so much is made
 abbrev pub at_child : Walker → WalkState → Place → Walker
-at_child w made child = record w { made = made; current = at child; cursor = child.cursor; is_ambient = child.is_ambient }
+at_child w made child = record w { made = made; current = scope_of_place child; cursor = child.cursor; is_ambient = child.is_ambient }
 
 -- the walk behind a child
 abbrev pub behind_child : Walker → WalkState → Place → ℕ → Walker
-behind_child w made p cursor = record w { made = made; current = at p; cursor = cursor; is_ambient = p.is_ambient }
+behind_child w made p cursor = record w { made = made; current = scope_of_place p; cursor = cursor; is_ambient = p.is_ambient }
 
 module _ (ds : List Declaration) (first : Walker) (p : Place) (own : Option OpenScope) (n : ℕ) where
   -- all that is made over the node, and the cursor behind its children
@@ -139,7 +139,7 @@ module _ (ds : List Declaration) (first : Walker) (p : Place) (own : Option Open
     -- the counter is still to rise by what they ask
     pub asks : raised now (probes_of_steps ds w.made (steps_below p scope next cursor f)) ≡ raised before (probes_over ds first p own n)
 
-  own_first : (turn : Turn) (current : ℕ) → turn.own ≡ cond (same_kind p.node.kind kind.Program) (Some current) None → current ≡ at p → IsOpenAtRoot p own → turn.own ≡ option_map (λ s. s.number) own
+  own_first : (turn : Turn) (current : ℕ) → turn.own ≡ cond (same_kind p.node.kind kind.Program) (Some current) None → current ≡ scope_of_place p → IsOpenAtRoot p own → turn.own ≡ option_map (λ s. s.number) own
   own_first turn current e at_p h = e ∙ by own h
     where
       by : (o : Option OpenScope) → IsOpenAtRoot p o → cond (same_kind p.node.kind kind.Program) (Some current) None ≡ option_map (λ s. s.number) o
@@ -157,7 +157,7 @@ module _ (ds : List Declaration) (first : Walker) (p : Place) (own : Option Open
       → Rests before before w turn f
   rests_first w turn k f before h kind_same is e t =
       let comes : ComesTo first p = h.comes in
-      let current : w.current ≡ at p = ap (λ (v : Walker). v.current) e ∙ comes.current in
+      let current : w.current ≡ scope_of_place p = ap (λ (v : Walker). v.current) e ∙ comes.current in
       let ambient : w.is_ambient ≡ p.is_ambient = ap (λ (v : Walker). v.is_ambient) e ∙ comes.is_ambient in
       let made : w.made ≡ entered ds first p = ap (λ (v : Walker). v.made) e in
       let nodes : w.nodes ≡ kept_at first p = ap (λ (v : Walker). v.nodes) e in
@@ -186,7 +186,7 @@ module _ (ds : List Declaration) (first : Walker) (p : Place) (own : Option Open
           };
           between = subst (λ (v : WalkState). IsBetween v p own n cursor (length (entered ds first p).waiting) f) (sym made)
               (subst (λ (g : Forest). IsBetween (entered ds first p) p own n cursor (length (entered ds first p).waiting) g) (sym is) h.between);
-          named = subst (λ (ws : List Written). AllNamed ds ws (steps_below p own n cursor f)) (sym (ap (λ (v : Walker). v.namesakes) e))
+          named = subst (λ (ws : List WrittenName). AllNamed ds ws (steps_below p own n cursor f)) (sym (ap (λ (v : Walker). v.namesakes) e))
               (subst (λ (g : Forest). AllNamed ds first.namesakes (steps_below p own n cursor g)) (sym is) h.named);
           stated = subst (λ (states : List InstanceState). AllStated states (steps_below p own n cursor f)) (sym (ap (λ (v : Walker). v.states) e))
               (subst (λ (g : Forest). AllStated first.states (steps_below p own n cursor g)) (sym is) h.stated);
@@ -272,12 +272,12 @@ module _ (ds : List Declaration) (p : Place) (own : Option OpenScope) (n cursor 
   start_here w = start_at p child.0 own start w.made
 
   -- what is known of the names of the first child and of the rest
-  pub record FirstNamed (ws : List Written) : Type 0 where
+  pub record FirstNamed (ws : List WrittenName) : Type 0 where
     pub here : IsStepNamed ds ws (entering place_here)
     pub below : AllNamed ds ws (steps_below place_here None next_here (on_entering child.1.kind place_here.cursor) child.1.children)
     pub later : AllNamed ds ws (steps_below p scope_here (next_past p own n child) (cursor_past p child.0 cursor place_here) (forest_of rest))
 
-  pub first_named : (ws : List Written) → AllNamed ds ws (steps_below p own n cursor (forest_of (child ∷ rest))) → FirstNamed ws
+  pub first_named : (ws : List WrittenName) → AllNamed ds ws (steps_below p own n cursor (forest_of (child ∷ rest))) → FirstNamed ws
   first_named ws h =
       let xs : List Step = opening_at p child.0 own n in
       let ys : List Step = steps_below place_here None next_here (on_entering child.1.kind place_here.cursor) child.1.children in
@@ -309,15 +309,15 @@ module _ (ds : List Declaration) (p : Place) (own : Option OpenScope) (n cursor 
 
   -- where the child stands, by the turn
   scope_of_child : (made : WalkState) (turn : Turn) → IsTurnAt turn p scope_here (start_at p child.0 own start made) → (t : Tables)
-      → child_scope t turn p.node.kind child.0 ≡ cond (is_parameter_decorator p.node.kind child.0) (unwrap_or (scope_of t (at p)).parent (at p)) (within_at p child.0 scope_here)
+      → child_scope t turn p.node.kind child.0 ≡ cond (is_parameter_decorator p.node.kind child.0) (unwrap_or (scope_of t (scope_of_place p)).parent (scope_of_place p)) (within_at p child.0 scope_here)
   scope_of_child made turn h t =
       (λ i. child_scope t (record turn { outer = h.outer i; own = h.own_scope i }) p.node.kind child.0) ∙ by scope_here
     where
-      by : (o : Option OpenScope) → child_scope t (record turn { outer = at p; own = option_map (λ s. s.number) o }) p.node.kind child.0
-          ≡ cond (is_parameter_decorator p.node.kind child.0) (unwrap_or (scope_of t (at p)).parent (at p)) (within_at p child.0 o)
-      by o = ap (λ m. cond (is_parameter_decorator p.node.kind child.0) (unwrap_or (scope_of t (at p)).parent (at p)) m) (inner o (is_inside p.node.kind child.0) refl)
+      by : (o : Option OpenScope) → child_scope t (record turn { outer = scope_of_place p; own = option_map (λ s. s.number) o }) p.node.kind child.0
+          ≡ cond (is_parameter_decorator p.node.kind child.0) (unwrap_or (scope_of t (scope_of_place p)).parent (scope_of_place p)) (within_at p child.0 o)
+      by o = ap (λ m. cond (is_parameter_decorator p.node.kind child.0) (unwrap_or (scope_of t (scope_of_place p)).parent (scope_of_place p)) m) (inner o (is_inside p.node.kind child.0) refl)
         where
-          inner : (o : Option OpenScope) (b : Bool) → is_inside p.node.kind child.0 ≡ b → own_or (is_inside p.node.kind child.0) (option_map (λ s. s.number) o) (at p) ≡ within_at p child.0 o
+          inner : (o : Option OpenScope) (b : Bool) → is_inside p.node.kind child.0 ≡ b → own_or (is_inside p.node.kind child.0) (option_map (λ s. s.number) o) (scope_of_place p) ≡ within_at p child.0 o
           inner None true e = rw e refl
           inner None false e = rw e refl
           inner (Some s) true e = rw e refl
@@ -352,7 +352,7 @@ module _ (ds : List Declaration) (p : Place) (own : Option OpenScope) (n cursor 
       (ap (λ (v : Walker). v.namesakes) o)
       (ap (λ (v : Walker). v.path) o)
       (scope_of_child w.made turn t opened.made.tables
-      ∙ ap (λ (v : WalkState). cond (is_parameter_decorator p.node.kind child.0) (unwrap_or (scope_of v.tables (at p)).parent (at p)) (within_at p child.0 scope_here)) made
+      ∙ ap (λ (v : WalkState). cond (is_parameter_decorator p.node.kind child.0) (unwrap_or (scope_of v.tables (scope_of_place p)).parent (scope_of_place p)) (within_at p child.0 scope_here)) made
       ∙ sym (turns.child_stands_at ds w.made p own n cursor start child rest h.between))
       (λ i. cursor_before p.node (ambient_inside p.node (t.is_ambient i)) child.0 child.1 ((ap (λ (v : Walker). v.cursor) o ∙ h.flags) i))
       (ap (λ (b : Bool). ambient_round p.node b child.0) t.is_ambient)
@@ -438,7 +438,7 @@ module _ (ds : List Declaration) (p : Place) (own : Option OpenScope) (n cursor 
         stands = t;
         between = subst (λ (u : WalkState). IsBetween u p scope_here (next_past p own n child) (cursor_past p child.0 cursor place_here) (start_here w) (forest_of rest))
             (sym (made_behind w v past ended e k b)) (turns.next_between ds w.made p own n cursor start child rest h.between);
-        named = subst (λ (ws : List Written). AllNamed ds ws (steps_below p scope_here (next_past p own n child) (cursor_past p child.0 cursor place_here) (forest_of rest)))
+        named = subst (λ (ws : List WrittenName). AllNamed ds ws (steps_below p scope_here (next_past p own n child) (cursor_past p child.0 cursor place_here) (forest_of rest)))
             (sym (ap (λ (u : Walker). u.namesakes) b ∙ ap (λ (u : Walker). u.namesakes) through)) names.later;
         stated = subst (λ (states : List InstanceState). AllStated states (steps_below p scope_here (next_past p own n child) (cursor_past p child.0 cursor place_here) (forest_of rest)))
             (sym (ap (λ (u : Walker). u.states) b ∙ ap (λ (u : Walker). u.states) through)) known.later;

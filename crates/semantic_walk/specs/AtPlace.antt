@@ -5,7 +5,7 @@ use Rattle.semantic_kinds.specs.declared.role.Role.{Role}
 use Rattle.semantic_tree.specs.Forest.{Forest}
 use Rattle.semantic_tree.specs.Limits.{source_limit}
 use Rattle.semantic_tree.specs.declared.node.Node.{Node}
-use Rattle.semantic_model.specs.Place.{Place, OpenScope, innermost, at}
+use Rattle.semantic_model.specs.Place.{Place, OpenScope, innermost, scope_of_place}
 use Rattle.semantic_model.specs.Cursor.{on_entering, on_leaving, cursor_after}
 use Rattle.semantic_model.specs.Declaration.{Declaration}
 use Rattle.semantic_model.specs.Step.{entering, leaving, steps_below}
@@ -32,7 +32,7 @@ pub record ComesTo (w : Walker) (p : Place) : Type 0 where
   pub source_type : w.source_type ≡ p.source_type
   -- the nodes above it, root first
   pub path : w.path ≡ reverse p.path
-  pub current : w.current ≡ at p
+  pub current : w.current ≡ scope_of_place p
   pub cursor : w.cursor ≡ p.cursor
   pub is_ambient : w.is_ambient ≡ p.is_ambient
 
@@ -51,7 +51,7 @@ pub record IsShown (ds : List Declaration) (w : Walker) (p : Place) : Type 0 whe
 
 -- what stands between two children of a place, with its own scope, where its header starts, and whether its kind acts between them
 pub record IsTurnAt (turn : Turn) (p : Place) (own : Option OpenScope) (start : ℕ) : Type 0 where
-  pub outer : turn.outer ≡ at p
+  pub outer : turn.outer ≡ scope_of_place p
   pub is_ambient : turn.is_ambient ≡ p.is_ambient
   pub own_scope : turn.own ≡ option_map (λ s. s.number) own
   pub header : turn.header_start ≡ start
@@ -72,7 +72,7 @@ pub record IsBetweenAt (ds : List Declaration) (w : Walker) (turn : Turn) (p : P
 -- the root's scope is open before its node is entered, the others are not
 abbrev pub IsOpenAtRoot : Place → Option OpenScope → Type 0
 IsOpenAtRoot p None = p.node.kind ≡ kind.Program → ⊥
-IsOpenAtRoot p (Some s) = (p.node.kind ≡ kind.Program) × (s.number ≡ at p)
+IsOpenAtRoot p (Some s) = (p.node.kind ≡ kind.Program) × (s.number ≡ scope_of_place p)
 
 -- what is made once the node is entered
 abbrev pub entered : List Declaration → Walker → Place → WalkState

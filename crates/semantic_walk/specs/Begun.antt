@@ -10,7 +10,7 @@ use Rattle.semantic_model.specs.ScopeKind.{opened_scope}
 use Rattle.semantic_model.specs.Step.{root_place, steps}
 use Rattle.walk_model.specs.WalkState.{nothing_made}
 use Rattle.walk_model.specs.Opens.{open_scope}
-use Rattle.walk_model.specs.WrittenNames.{Written, is_written, is_sloppy, names_written}
+use Rattle.walk_model.specs.WrittenNames.{WrittenName, is_written, is_sloppy, names_written}
 use Rattle.walk_notes.specs.NoteLists.{nothing_noted}
 use Rattle.semantic_walk.specs.Listed.{kept_from}
 use Rattle.semantic_walk.specs.Stated.{AllStated}
@@ -18,7 +18,7 @@ use Rattle.semantic_walk.specs.Walker.{Walker}
 use Rattle.semantic_walk.specs.declared.settings.Settings.{Settings}
 
 -- the walk stands at the root, whose scope is open; it keeps nodes, notes classes and tells early errors, or doesn't
-abbrev pub begun : Tree → List InstanceState → List Written → (keeps notes checks : Bool) → Walker
+abbrev pub begun : Tree → List InstanceState → List WrittenName → (keeps notes checks : Bool) → Walker
 begun program states ws keeps notes checks =
     let p : Place = root_place program in
     record {
@@ -39,7 +39,7 @@ begun program states ws keeps notes checks =
     }
 
 -- the names are those that the program writes, if functions move in it
-abbrev pub AreNamesOf : Tree → List Written → Type 0
+abbrev pub AreNamesOf : Tree → List WrittenName → Type 0
 AreNamesOf program ws = (opener : ℕ) (name : Name) → is_written ws opener name ≡ (is_sloppy program.source_type && is_written (names_written program) opener name)
 
 -- classes are noted for checks, too

@@ -10,7 +10,7 @@ use Rattle.semantic_model.specs.Naming.{Naming}
 use Rattle.semantic_model.specs.Declaration.{Declaration, Route as Way}
 use Rattle.semantic_model.specs.Event.{declares_all}
 use Rattle.walk_model.specs.Walks.{act_all}
-use Rattle.walk_model.specs.WrittenNames.{Written, is_written, is_known_inside}
+use Rattle.walk_model.specs.WrittenNames.{WrittenName, is_written, is_known_inside}
 use Rattle.semantic_walk.specs.Walker.{Walker}
 use Rattle.table_building.specs.Routes.{way_from}
 use Rattle.table_building.specs.Each.{declare_each, hoist_each, settle_in_block}
@@ -30,12 +30,12 @@ hoisting w bits ds =
     record w { made = hoist_each w.made (map (λ s. s.number) way.passed) way.target.number ds }
 
 -- whether the name is written in one of the scopes, by the nodes that open them
-abbrev pub stands_on : Tables → List Written → Name → List ℕ → Bool
+abbrev pub stands_on : Tables → List WrittenName → Name → List ℕ → Bool
 stands_on t ws x [] = false
 stands_on t ws x (s ∷ ss) = is_written ws (scope_of t s).node x || stands_on t ws x ss
 
 -- where a function of a block moves: to the nearest function, unless a namesake stands strictly between
-abbrev pub block_target : Tables → List Written → (block : ℕ) → Name → Option ℕ
+abbrev pub block_target : Tables → List WrittenName → (block : ℕ) → Name → Option ℕ
 block_target t ws block x =
     let way : Way = way_from t block scope.Var.bits in
     cond (stands_on t ws x (drop 1 (map (λ s. s.number) way.passed))) None (Some way.target.number)

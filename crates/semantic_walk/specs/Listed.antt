@@ -2,7 +2,7 @@
 use Rattle.std.specs.Prelude.{◌≡◌, ◌<◌, ℕ, List, [], ◌∷◌, ◌++◌, Option, Some, None, length, slice_index, Bool, if◌then◌else◌}
 use Rattle.semantic_tree.specs.Forest.{Forest, numbered}
 use Rattle.semantic_tree.specs.Tree.{IsPreorder}
-use Rattle.semantic_model.specs.Place.{Place, at}
+use Rattle.semantic_model.specs.Place.{Place, scope_of_place}
 use Rattle.semantic_model.specs.NodeTable.{nodes as entered_nodes}
 use Rattle.semantic_model.specs.Step.{Step, entering}
 use Rattle.node_store.specs.Entered.{Entered, nothing_entered}
@@ -21,7 +21,7 @@ list_kept (Some e) = e.list
 
 -- the walk has entered the node at the place
 abbrev pub entered_at : Place → Entered → Entered
-entered_at p e = store.entering e p.node (at p)
+entered_at p e = store.entering e p.node (scope_of_place p)
 
 -- the nodes that a walk has entered, once it has walked over steps
 abbrev pub all_listed : List Step → Entered → Entered
@@ -29,7 +29,7 @@ all_listed steps e = record e { list = listed e.list (entered_nodes steps) }
 
 -- the parent of the node at the place has the id; the root is its own
 abbrev pub IsBelow : Place → ℕ → Type 0
-IsBelow p id = entered_nodes (entering p ∷ []) ≡ (record { node = p.node; scope = at p; parent = id }) ∷ []
+IsBelow p id = entered_nodes (entering p ∷ []) ≡ (record { node = p.node; scope = scope_of_place p; parent = id }) ∷ []
 
 -- the node at the place comes next
 pub record IsNext (p : Place) (e : Entered) : Type 0 where

@@ -2,7 +2,7 @@
 use Rattle.std.specs.Prelude.{◌≡◌, List, [], ◌∷◌, Bool, false, Option, filter, map, reverse}
 use Rattle.semantic_kinds.specs.declared.kind.AstType.TheVariants as kind
 use Rattle.node_store.specs.Entered.{Entered}
-use Rattle.node_store.specs.Store.{Stands, entered_in}
+use Rattle.node_store.specs.Store.{IsWalked, entered_in}
 use Rattle.semantic_tree.specs.declared.node.Node.{Node}
 use Rattle.semantic_tree.specs.Views.{is}
 use Rattle.semantic_tree.specs.BoundNames.{is_simple_parameter_list}
@@ -13,8 +13,8 @@ pub record Way : Type 0 where
   pub nodes : List Node
   pub entered : Option Entered
 
-abbrev pub way_of : Inside → Way
-way_of p = record { nodes = reverse p.stack; entered = entered_in p.store }
+abbrev pub walk_path : Inside → Way
+walk_path p = record { nodes = reverse p.stack; entered = entered_in p.store }
 
 -- of each list of parameters among the nodes, whether it is simple
 abbrev pub lists_simple : List Node → List Bool
@@ -22,8 +22,8 @@ lists_simple nodes = map is_simple_parameter_list (filter (is kind.FormalParamet
 
 -- the answers are those of the lists on the way, and the store stands at its last node
 pub record IsWay (p : Inside) : Type 0 where
-  pub simple : p.simple.items ≡ lists_simple (way_of p).nodes
-  pub stands : Stands p.store
+  pub simple : p.simple.items ≡ lists_simple (walk_path p).nodes
+  pub stands : IsWalked p.store
 
 -- the parent of the last node of a path, alone
 abbrev pub parent_in : List Node → List Node

@@ -9,13 +9,13 @@ use Rattle.semantic_model.specs.Place.{Place}
 use Rattle.semantic_syntax.specs.declared.scope_flags.TheConstants.ScopeFlags as scope
 use Rattle.semantic_syntax.specs.Sets.{meets, union}
 use Rattle.semantic_syntax.specs.Reading.{scope_of}
-use Rattle.semantic_syntax.specs.Writing.{taken_over}
+use Rattle.semantic_syntax.specs.Writing.{bindings_taken_over}
 use Rattle.node_store.specs.Entered.{Entered, entering}
-use Rattle.semantic_model.specs.Cursor.{way_of}
+use Rattle.semantic_model.specs.Cursor.{way_or_read}
 use Rattle.semantic_model.specs.ScopeKind.{flags_of_kind, strict_if}
 use Rattle.walk_model.specs.WalkState.{WalkState}
 use Rattle.walk_model.specs.Opens.{refer_to, open_in}
-use Rattle.walk_model.specs.WrittenNames.{Written}
+use Rattle.walk_model.specs.WrittenNames.{WrittenName}
 use Rattle.walk_notes.specs.NoteLists.{NoteLists}
 use Rattle.check_walk.specs.SoFar.{Telling}
 use Rattle.semantic_walk.specs.Paths.{parent_in}
@@ -27,7 +27,7 @@ pub record Walker : Type 0 where
   -- the states of the namespaces
   pub states : List InstanceState
   -- past which names block functions don't move, collected or not
-  pub namesakes : List Written
+  pub namesakes : List WrittenName
   -- the nodes from the root to the one that is visited
   pub path : List Node
   -- the scope where it stands
@@ -88,7 +88,7 @@ noting_node w node = record w { nodes = option_map (λ e. entering e node w.curr
 
 -- the node is a reference where the walk stands, under its cursor
 abbrev pub referring : Walker → Node → Walker
-referring w node = record w { made = refer_to w.made node.node_id node.text w.current (way_of w.cursor) }
+referring w node = record w { made = refer_to w.made node.node_id node.text w.current (way_or_read w.cursor) }
 
 -- the node in its role opens a scope where the walk stands, which is strict where the code around it is
 abbrev pub opening_in : Walker → Role → Node → WalkState
@@ -98,4 +98,4 @@ opening_in w r node =
 
 -- the scope takes over what the current one binds
 abbrev pub taking_over : Walker → ℕ → Walker
-taking_over w s = record w { made = record w.made { tables = taken_over w.made.tables w.current s } }
+taking_over w s = record w { made = record w.made { tables = bindings_taken_over w.made.tables w.current s } }

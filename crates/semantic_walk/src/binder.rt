@@ -16,7 +16,7 @@ ghost use Rattle.semantic_model.specs.Event.{declares_all};
 ghost use Rattle.semantic_model.specs.Fold.{State};
 ghost use Rattle.semantic_model.specs.Hoist.{run};
 ghost use Rattle.semantic_model.specs.Step.{entering};
-ghost use Rattle.semantic_model.specs.Binder.{declare, is_statement, variables_under, function_row, own_function_row, parameters_under, imports, member_names, declared_on_entering, declared_on_opening};
+ghost use Rattle.semantic_model.specs.Binder.{declaration_at, is_statement, variables_under, function_row, own_function_row, parameters_under, import_declarations, member_names, declared_on_entering, declared_on_opening};
 ghost use Rattle.walk_model.specs.Shown.{ShowsChain, HasVar};
 ghost use Rattle.walk_model.specs.NamedScopes.{IsStepNamed};
 ghost use Rattle.walk_model.specs.Walks.{act_all};
@@ -251,13 +251,14 @@ impl<'a> Walk<'a> {
             → IsStepNamed ds self.old.namesakes (entering p) →
             OnOk result (self.new
             ≡ acting ds self.old
-            (map (declare p.node (function_row p) (has pure_mark p.node)) (bound_names p.node))) }
+            (map (declaration_at p.node (function_row p) (has pure_mark p.node))
+            (bound_names p.node))) }
         ensures opening { (ds : List Declaration) (p : Place) (own : OpenScope)
             → p.node ≡ function.entry.node.now → is_statement p.node ≡ false
             → IsWithin self.old p (own ∷ []) →
             OnOk result (self.new
             ≡ acting ds self.old
-            (map (declare p.node (own_function_row p own) (has pure_mark p.node))
+            (map (declaration_at p.node (own_function_row p own) (has pure_mark p.node))
             (bound_names p.node))) }
         ensures goes { OnOk result (Goes self.old.made self.new.made) }
     {
@@ -406,7 +407,7 @@ impl<'a> Walk<'a> {
             (names_at local_role specifier.node.now) ≤ u32.MAX }
         ensures made { (ds : List Declaration) (p : Place) → p.node ≡ specifier.entry.node.now
             → IsWithin self.old p p.chain →
-            OnOk result (self.new ≡ acting ds self.old (imports p)) }
+            OnOk result (self.new ≡ acting ds self.old (import_declarations p)) }
         ensures goes { OnOk result (Goes self.old.made self.new.made) }
     {
         let row = rows::import_row(specifier, self.parent());

@@ -1,6 +1,6 @@
 //! A node is left.
 ghost use Rattle.std.specs.Prelude.{◌≡◌, ◌++◌, map, drop, OnOk};
-ghost use Rattle.check_model.specs.DiagnosticsOf.{told};
+ghost use Rattle.check_model.specs.DiagnosticsOf.{conflict_diagnostic};
 ghost use Rattle.check_model.specs.Rows.{rows_of};
 ghost use Rattle.check_context.specs.Handed.{sight};
 ghost use Rattle.check_context.specs.Leavable.{IsLeavable};
@@ -24,7 +24,7 @@ pub fn tell_leaving<'a, R: Rules>(
 ) -> Result<(), AllocError>
     requires { IsLeavable kind.node.now context.now }
     ensures { OnOk result (said.new
-        ≡ said.old ++ map told (drop counted declared.now.conflicts)
+        ≡ said.old ++ map conflict_diagnostic (drop counted declared.now.conflicts)
         ++ rows_of (sight kind.entry.node.now context.now)) }
 {
     declared.tell_from(counted, said)?;

@@ -3,12 +3,12 @@
 ghost use Rattle.std.specs.Prelude.{◌≡◌, ◌++◌, ◌∷◌, ◌-◌, [], cond, is_some, length, reverse, take, option_map, OnOk, OnErr};
 ghost use Rattle.semantic_kinds.specs.declared.kind.AstType.TheVariants as kind_of;
 ghost use Rattle.semantic_tree.specs.Views.{is};
-ghost use Rattle.node_rules.specs.Seen.{path_of};
+ghost use Rattle.node_rules.specs.Seen.{parent_path};
 ghost use Rattle.node_store.specs.Entered.{entering, leaving};
 ghost use Rattle.node_store.specs.PathOf.{path_of as outward_path, IsInStore};
 ghost use Rattle.semantic_tree.specs.BoundNames.{is_simple_parameter_list};
 ghost use Rattle.semantic_walk.specs.Listed.{kept_from, list_kept};
-ghost use Rattle.node_store.specs.Store.{Stands, entered_in};
+ghost use Rattle.node_store.specs.Store.{IsWalked, entered_in};
 ghost use Rattle.semantic_walk.specs.Paths.{parent_in, ends_with_list, lists_simple};
 
 use node_store::{Ancestry, AncestryStack, AstNodeStore, AstNodeStoreKind, AstNodes};
@@ -32,13 +32,13 @@ impl<'a> Model for Path<'a> {
     ghost use Rattle.std.specs.Coded.{codes};
     ghost use Rattle.semantic_tree.specs.contracts.node.Node as node;
     ghost use Rattle.semantic_syntax.specs.contracts.node_flags.NodeFlags as eight_flags;
-    ghost use Rattle.semantic_walk.specs.Paths.{Way, way_of, IsWay};
+    ghost use Rattle.semantic_walk.specs.Paths.{Way, walk_path, IsWay};
 
     ghost Value = { Way };
 
     ghost coded = { Prim.hlevel (codes, node.the_row.coded, eight_flags.the_row.coded) };
 
-    ghost view = { way_of };
+    ghost view = { walk_path };
 
     ghost invariant = { IsWay };
 }
@@ -93,10 +93,10 @@ fn keep<'a>(
     kind: AstKind<'a>,
     scope: ScopeId,
 ) -> Result<(), AllocError>
-    requires { Stands store.old }
+    requires { IsWalked store.old }
     ensures entered { OnOk result (entered_in store.new
         ≡ option_map (λ e. entering e kind.entry.node.now scope) (entered_in store.old)) }
-    ensures stands { Stands store.new }
+    ensures stands { IsWalked store.new }
 {
     if keeps(store) {
         store.enter(kind, scope)
@@ -108,9 +108,9 @@ fn keep<'a>(
 /// Leaves a node in the store, if that keeps the nodes that are entered.
 #[inline(always)]
 fn leave_kept(store: &mut AstNodeStore<'_>)
-    requires { Stands store.old }
+    requires { IsWalked store.old }
     ensures left { entered_in store.new ≡ option_map leaving (entered_in store.old) }
-    ensures stands { Stands store.new }
+    ensures stands { IsWalked store.new }
 {
     if keeps(store) {
         store.leave();
@@ -180,7 +180,7 @@ impl<'a> Path<'a> {
 
     /// The parent of the last node.
     pub fn parent(&self) -> Option<AstKind<'a>>
-        ensures { path_of result ≡ parent_in self.now.nodes }
+        ensures { parent_path result ≡ parent_in self.now.nodes }
     {
         self.stack.parent()
     }

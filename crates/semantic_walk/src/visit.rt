@@ -7,7 +7,7 @@ ghost use Rattle.semantic_tree.specs.Children.{forest_of};
 ghost use Rattle.semantic_tree.specs.Forest.{Forest, nothing};
 ghost use Rattle.semantic_tree.specs.Views.{has_role};
 ghost use Rattle.semantic_model.specs.Inside.{opens, is_inside, any_inside, is_in_header, header_roles};
-ghost use Rattle.semantic_model.specs.Place.{Place, OpenScope, at};
+ghost use Rattle.semantic_model.specs.Place.{Place, OpenScope, scope_of_place};
 ghost use Rattle.semantic_model.specs.ScopeKind.{opened_scope};
 ghost use Rattle.semantic_model.specs.Declaration.{Declaration};
 ghost use Rattle.semantic_model.specs.Step.{opening, opening_at, scope_at, child_place, ending_after, opening_last};
@@ -229,7 +229,7 @@ impl<'a> Walk<'a> {
             let place = child_place p (scope_at p role own n) cursor role child.entry.node.now in
             OnOk result ((self.new ≡ record self.old {
               made = after_all ds self.old.made (opening_at p role own n);
-              current = at place;
+              current = scope_of_place place;
               cursor = place.cursor;
               is_ambient = place.is_ambient;
             }) × IsTurnAt turn.new p (scope_at p role own n)
@@ -435,7 +435,7 @@ impl<'a> Walk<'a> {
             → HoldsAt self.old.made own start →
             OnOk result (self.new ≡ record self.old {
               made = after_all ds self.old.made (ending_after p role own (forest_of rest.now));
-              current = at p;
+              current = scope_of_place p;
               cursor = cursor_behind parent role before.bits self.old.cursor;
               is_ambient = p.is_ambient;
             }) }

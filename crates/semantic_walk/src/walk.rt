@@ -23,7 +23,7 @@ ghost use Rattle.semantic_syntax.specs.Counts.{raised};
 ghost use Rattle.semantic_syntax.specs.Told.{source_of};
 ghost use Rattle.walk_model.specs.Probes.{probes_in_end};
 ghost use Rattle.table_building.specs.Settled.{settled_from, probes_from};
-ghost use Rattle.node_rules.specs.Seen.{path_of};
+ghost use Rattle.node_rules.specs.Seen.{parent_path};
 ghost use Rattle.semantic_walk.specs.Paths.{parent_in};
 ghost use Rattle.semantic_walk.specs.Walker.{place_in, noting_node, referring, opening_in, taking_over, telling_of};
 ghost use Rattle.semantic_walk.specs.Listed.{list_kept};
@@ -162,7 +162,7 @@ impl<'a> Walk<'a> {
 
     /// The parent of the node that is visited.
     pub(crate) fn parent(&self) -> Option<AstKind<'a>>
-        ensures { path_of result ≡ parent_in self.now.path }
+        ensures { parent_path result ≡ parent_in self.now.path }
     {
         self.path.parent()
     }

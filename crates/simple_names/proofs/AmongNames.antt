@@ -6,11 +6,11 @@ use Rattle.semantic_syntax.proofs.Truth.{or_assoc}
 use Rattle.semantic_syntax.specs.Tables.{Name}
 use Rattle.mangle_model.specs.Assignment.{first_name}
 use Rattle.mangle_model.specs.Written.{size_of}
-use Rattle.simple_names.specs.Telling.{has}
+use Rattle.simple_names.specs.Telling.{is_name_among}
 
-pub has_append : (q : Name) (xs ys : List Name) → has (xs ++ ys) q ≡ (has xs q || has ys q)
+pub has_append : (q : Name) (xs ys : List Name) → is_name_among (xs ++ ys) q ≡ (is_name_among xs q || is_name_among ys q)
 has_append q [] ys = refl
-has_append q (x ∷ xs) ys = ap (λ b. bytes_eq q x || b) (has_append q xs ys) ∙ sym (or_assoc (bytes_eq q x) (has xs q) (has ys q))
+has_append q (x ∷ xs) ys = ap (λ b. bytes_eq q x || b) (has_append q xs ys) ∙ sym (or_assoc (bytes_eq q x) (is_name_among xs q) (is_name_among ys q))
 
 pub first_assoc : (a b c : Option Name) → first_name (first_name a b) c ≡ first_name a (first_name b c)
 first_assoc None b c = refl

@@ -6,7 +6,7 @@ use Rattle.semantic_syntax.specs.Tables.{Name}
 use Rattle.mangle_model.specs.Assignment.{first_name}
 use Rattle.mangle_model.specs.OneNameEach.{is_shorter}
 use Rattle.mangle_model.specs.ShortNames.{short_name}
-use Rattle.simple_names.specs.NextNames.{unused_from, IsNext}
+use Rattle.simple_names.specs.NextNames.{unused_from, IsNextName}
 use Rattle.simple_names.specs.declared.next_name.Short.{Short}
 use Rattle.simple_names.proofs.AmongNames.{first_assoc, none_after}
 use Rattle.simple_names.proofs.NextTurns.{next_left}
@@ -46,7 +46,7 @@ module _ (unused : Name → Bool) (changing : List Name) (count : ℕ) where
         rest = λ q. ap (λ n. found (shorter changing (unused_from unused 0 n)) q) none;
       }
 
-  pub one_pair : (i next : ℕ) (old new : List (Name × Name)) (name : Name) (short : Short) → i < length changing → name ≡ get_or changing i [] → IsNext unused next short
+  pub one_pair : (i next : ℕ) (old new : List (Name × Name)) (name : Name) (short : Short) → i < length changing → name ≡ get_or changing i [] → IsNextName unused next short
       → ((q : Name) → found new q ≡ with_pair name (short_name short.number) (found old q) q) → SoFar i next old → SoFar (i + 1) (short.number + 1) new
   one_pair i next old new name short h is s grown so =
       let x : Name = get_or changing i [] in

@@ -11,7 +11,7 @@ abbrev pub unused_from : (unused : Name → Bool) → (from count : ℕ) → Lis
 unused_from unused from count = filter unused (map short_name (range_with_len from count))
 
 -- the next unused one from a number on
-pub record IsNext (unused : Name → Bool) (from : ℕ) (short : Short) : Type 0 where
+pub record IsNextName (unused : Name → Bool) (from : ℕ) (short : Short) : Type 0 where
   pub named : chars (string_bytes short.name) ≡ short_name short.number
   pub is_unused : unused (short_name short.number) ≡ true
   pub after : from ≤ short.number

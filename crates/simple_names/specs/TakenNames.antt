@@ -7,19 +7,19 @@ use Rattle.semantic_model.specs.Analysis.{Analysis}
 use Rattle.mangle_model.specs.GoodNames.{is_free_name, is_kept_name, is_reserved}
 use Rattle.mangle_model.specs.OneNameEach.{bears_such, fixed_below, symbol_names}
 use Rattle.mangle_model.specs.Written.{size_of}
-use Rattle.simple_names.specs.Telling.{has}
+use Rattle.simple_names.specs.Telling.{is_name_among}
 use Rattle.simple_names.specs.declared.sets.Taken.{Taken}
 
 -- the name has more than one byte, and doesn't stay
 abbrev pub changes_by : Taken → Name → Bool
-changes_by taken name = nat_lt 1 (size_of name) && not (has taken.barred name || has taken.standing name)
+changes_by taken name = nat_lt 1 (size_of name) && not (is_name_among taken.barred name || is_name_among taken.standing name)
 
 -- nothing has the name, and it is no word
 abbrev pub unused_by : Taken → Name → Bool
-unused_by taken name = not (is_reserved name || (has taken.tabled name || has taken.standing name))
+unused_by taken name = not (is_reserved name || (is_name_among taken.tabled name || is_name_among taken.standing name))
 
 -- the sets are those of a program
 pub record AreTaken (may : ℕ → Bool) (a : Analysis) (p : Tree) (taken : Taken) : Type 0 where
-  pub barred : (q : Name) → has taken.barred q ≡ (is_free_name a.tables q || is_kept_name may q 0 a.tables.symbols)
-  pub tabled : (q : Name) → has taken.tabled q ≡ (is_free_name a.tables q || has (symbol_names a.tables) q)
-  pub standing : (q : Name) → has taken.standing q ≡ has (fixed_below (bears_such may a) Elsewhere p.root.children) q
+  pub barred : (q : Name) → is_name_among taken.barred q ≡ (is_free_name a.tables q || is_kept_name may q 0 a.tables.symbols)
+  pub tabled : (q : Name) → is_name_among taken.tabled q ≡ (is_free_name a.tables q || is_name_among (symbol_names a.tables) q)
+  pub standing : (q : Name) → is_name_among taken.standing q ≡ is_name_among (fixed_below (bears_such may a) Elsewhere p.root.children) q

@@ -1,7 +1,7 @@
 //! The simple mangler's names.
 ghost use Rattle.std.specs.Prelude.{◌≡◌, ◌++◌, [], ◌∷◌, option_map, IfOk, OnOk};
 ghost use Rattle.std.specs.Str.{chars};
-ghost use Rattle.mangle_model.specs.OneNameEach.{name_pairs, names_by};
+ghost use Rattle.mangle_model.specs.OneNameEach.{name_pairs, names_by_name};
 ghost use Rattle.simple_names.specs.Telling.{may_by, told_by};
 
 use crate::changing::changing_names;
@@ -28,7 +28,7 @@ fn push_name(alloc: Global, names: &mut NewNames, name: Option<&str>) -> Result<
 
 /// The new name of its name for each symbol.
 fn names_by(alloc: Global, scoping: &Scoping, pairs: &NameMap) -> Result<NewNames, AllocError>
-    ensures { IfOk result (λ names. names ≡ names_by pairs.now scoping.now.symbols) }
+    ensures { IfOk result (λ names. names ≡ names_by_name pairs.now scoping.now.symbols) }
 {
     let mut names = NewNames::new(alloc);
     for number in 0..(scoping.symbols_len() as u32) {
@@ -45,7 +45,7 @@ pub fn each_named(
     known: &Known<'_>,
 ) -> Result<NewNames, AllocError>
     ensures { IfOk result (λ names. names
-        ≡ names_by (name_pairs (may_by known.now) (told_by known.now) program.now)
+        ≡ names_by_name (name_pairs (may_by known.now) (told_by known.now) program.now)
         (told_by known.now).tables.symbols) }
 {
     let taken = taken_names(alloc, program, known)?;

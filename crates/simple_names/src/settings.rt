@@ -1,6 +1,6 @@
 //! Which nodes have names of the program as their texts, by where they stand.
 ghost use Rattle.std.specs.Prelude.{◌≡◌};
-ghost use Rattle.semantic_tree.specs.Renamed.{is_named, names_member, setting_below, setting_inside};
+ghost use Rattle.semantic_tree.specs.Renamed.{is_program_name, names_member, setting_below, setting_inside};
 
 use semantic_tree::swap::Setting;
 use semantic_tree::{AstType, Role};
@@ -20,7 +20,7 @@ fn names_member(setting: Setting, role: Role, kind: AstType) -> bool
 
 /// Whether the text of a node in the setting is a name of the program.
 pub fn is_named(setting: Setting, role: Role, kind: AstType) -> bool
-    ensures { result ≡ is_named setting role kind }
+    ensures { result ≡ is_program_name setting role kind }
 {
     kind == AstType::BindingIdentifier
         || kind == AstType::IdentifierReference

@@ -2,9 +2,9 @@
 ghost use Rattle.std.specs.Prelude.{◌≡◌, ◌&&◌, ◌||◌, [], ◌∷◌, cond, not, IfOk, OnOk};
 ghost use Rattle.semantic_syntax.specs.Tables.{Name};
 ghost use Rattle.semantic_tree.specs.declared.swap.Setting.TheVariants.{Elsewhere};
-ghost use Rattle.semantic_tree.specs.Renamed.{is_named};
+ghost use Rattle.semantic_tree.specs.Renamed.{is_program_name};
 ghost use Rattle.mangle_model.specs.OneNameEach.{bears_such, fixed_below};
-ghost use Rattle.simple_names.specs.Telling.{has, may_by, told_by};
+ghost use Rattle.simple_names.specs.Telling.{is_name_among, may_by, told_by};
 
 use crate::known::{Known, bears_such};
 use crate::settings::{is_named, setting_below};
@@ -22,8 +22,8 @@ fn add_name(
     role: Role,
     node: &Node,
 ) -> Result<(), AllocError>
-    ensures { OnOk result ((q : Name) → has names.new q ≡ (has names.old q
-        || has (cond (is_named setting role node.now.kind
+    ensures { OnOk result ((q : Name) → is_name_among names.new q ≡ (is_name_among names.old q
+        || is_name_among (cond (is_program_name setting role node.now.kind
         && not (bears_such (may_by known.now) (told_by known.now) node.now.node_id))
         (node.now.text ∷ []) []) q)) }
 {
@@ -43,8 +43,8 @@ fn add_names(
     node: &Node,
 ) -> Result<(), AllocError>
     ensures { OnOk result ((q : Name)
-        → has names.new q ≡ (has names.old q
-        || has (fixed_below (bears_such (may_by known.now) (told_by known.now)) setting
+        → is_name_among names.new q ≡ (is_name_among names.old q
+        || is_name_among (fixed_below (bears_such (may_by known.now) (told_by known.now)) setting
         node.now.children) q)) }
 {
     for (role, child) in node.children.as_slice() {
@@ -62,7 +62,7 @@ pub fn standing_names(
     known: &Known<'_>,
 ) -> Result<NameSet, AllocError>
     ensures { IfOk result (λ names. (q : Name)
-        → has names q ≡ has (fixed_below
+        → is_name_among names q ≡ is_name_among (fixed_below
         (bears_such (may_by known.now) (told_by known.now)) Elsewhere
         program.now.root.children) q) }
 {

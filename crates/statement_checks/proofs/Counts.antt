@@ -5,7 +5,7 @@ use Rattle.semantic_syntax.specs.Tables.{Tables}
 use Rattle.semantic_diagnostics.specs.declared.diagnostic.Diagnostic.{Diagnostic}
 use Rattle.semantic_syntax.specs.Reading.{no_symbol, symbol_of}
 use Rattle.check_model.specs.Exports.{bound_rows, import_rows}
-use Rattle.statement_checks.specs.Bound.{times_in, AreCounting, repeated}
+use Rattle.statement_checks.specs.Bound.{times_in, AreCounting, rows_repeated}
 
 -- ---- counting
 
@@ -34,24 +34,24 @@ module _ (bound rest : List ℕ) (symbols : ℕ) (counts : List ℕ) (y : ℕ) (
 -- ---- telling
 
 -- the rows of one turn, and those of the turns after it
-pub next_turn : (times turn : ℕ) (rows : List Diagnostic) → turn < times → repeated (times - turn) rows ≡ rows ++ repeated (times - (turn + 1)) rows
-next_turn times turn rows h = let e : times - turn ≡ suc (times - (turn + 1)) = omega (arith, h) in ap (λ n. repeated n rows) e
+pub next_turn : (times turn : ℕ) (rows : List Diagnostic) → turn < times → rows_repeated (times - turn) rows ≡ rows ++ rows_repeated (times - (turn + 1)) rows
+next_turn times turn rows h = let e : times - turn ≡ suc (times - (turn + 1)) = omega (arith, h) in ap (λ n. rows_repeated n rows) e
 
-pub first_turn : (times : ℕ) (rows : List Diagnostic) → repeated (times - 0) rows ≡ repeated times rows
-first_turn times rows = let e : times - 0 ≡ times = omega arith in ap (λ n. repeated n rows) e
+pub first_turn : (times : ℕ) (rows : List Diagnostic) → rows_repeated (times - 0) rows ≡ rows_repeated times rows
+first_turn times rows = let e : times - 0 ≡ times = omega arith in ap (λ n. rows_repeated n rows) e
 
-pub no_turn : (times turn : ℕ) (rows : List Diagnostic) → times ≤ turn → repeated (times - turn) rows ≡ []
-no_turn times turn rows h = let e : times - turn ≡ 0 = omega (arith, h) in ap (λ n. repeated n rows) e
+pub no_turn : (times turn : ℕ) (rows : List Diagnostic) → times ≤ turn → rows_repeated (times - turn) rows ≡ []
+no_turn times turn rows h = let e : times - turn ≡ 0 = omega (arith, h) in ap (λ n. rows_repeated n rows) e
 
 -- the same rows for each of a list
-for_each_repeated : (rows : List Diagnostic) (xs : List ℕ) → flat_map (λ same. rows) xs ≡ repeated (length xs) rows
+for_each_repeated : (rows : List Diagnostic) (xs : List ℕ) → flat_map (λ same. rows) xs ≡ rows_repeated (length xs) rows
 for_each_repeated rows [] = refl
 for_each_repeated rows (x ∷ xs) = ap (λ l. rows ++ l) (for_each_repeated rows xs)
 
 -- the rows of a symbol, as often as it is bound, and those of the symbols after it
 pub next_symbol : (bound : List ℕ) (t : Tables) (number times : ℕ) → number < length t.symbols → times ≡ times_in bound number
-    → bound_rows bound number (drop number t.symbols) ≡ repeated times (import_rows (symbol_of t number)) ++ bound_rows bound (number + 1) (drop (number + 1) t.symbols)
+    → bound_rows bound number (drop number t.symbols) ≡ rows_repeated times (import_rows (symbol_of t number)) ++ bound_rows bound (number + 1) (drop (number + 1) t.symbols)
 next_symbol bound t number times within is =
     ap (bound_rows bound number) (drop-cons t.symbols number no_symbol within ∙ ap (λ k. symbol_of t number ∷ drop k t.symbols) (sym (add-one number)))
     ∙ ap (λ l. l ++ bound_rows bound (number + 1) (drop (number + 1) t.symbols))
-    (for_each_repeated (import_rows (symbol_of t number)) (filter (λ other. other == number) bound) ∙ ap (λ n. repeated n (import_rows (symbol_of t number))) (sym is))
+    (for_each_repeated (import_rows (symbol_of t number)) (filter (λ other. other == number) bound) ∙ ap (λ n. rows_repeated n (import_rows (symbol_of t number))) (sym is))

@@ -5,8 +5,8 @@ use Rattle.semantic_diagnostics.specs.declared.diagnostic.Diagnostic.{Diagnostic
 use Rattle.semantic_syntax.specs.Reading.{bindings_of}
 
 -- the symbols that the root scope binds
-abbrev pub bound_in : Tables → List ℕ
-bound_in t = map (λ b. b.1) (bindings_of t 0)
+abbrev pub root_symbols : Tables → List ℕ
+root_symbols t = map (λ b. b.1) (bindings_of t 0)
 
 -- how often a list has the number
 abbrev pub times_in : List ℕ → ℕ → ℕ
@@ -23,6 +23,6 @@ pub record AreCounting (bound left : List ℕ) (symbols : ℕ) (counts : List �
   pub are_times : (number : ℕ) → number < symbols → slice_index_or counts number 0 + times_in left number ≡ times_in bound number
 
 -- the rows so often
-abbrev pub repeated : ℕ → List Diagnostic → List Diagnostic
-repeated zero rows = []
-repeated (suc times) rows = rows ++ repeated times rows
+abbrev pub rows_repeated : ℕ → List Diagnostic → List Diagnostic
+rows_repeated zero rows = []
+rows_repeated (suc times) rows = rows ++ rows_repeated times rows

@@ -5,7 +5,7 @@ ghost use Rattle.check_model.specs.Exports as rows;
 ghost use Rattle.semantic_syntax.specs.Reading.{symbol_of};
 ghost use Rattle.check_context.specs.Handed.{around, IsContext};
 ghost use Rattle.check_context.specs.Tells.{Tells};
-ghost use Rattle.statement_checks.specs.Bound.{bound_in, repeated, AreCounts};
+ghost use Rattle.statement_checks.specs.Bound.{root_symbols, rows_repeated, AreCounts};
 
 use check_context::{CheckContext, tell};
 use scoping::{Redeclaration, Scoping};
@@ -70,7 +70,7 @@ fn tell_repeatedly(
     out: &mut Diagnostics,
 ) -> Result<(), AllocError>
     requires { symbol < length scoping.now.symbols }
-    ensures { Tells result (repeated times (rows.import_rows (symbol_of scoping.now symbol)))
+    ensures { Tells result (rows_repeated times (rows.import_rows (symbol_of scoping.now symbol)))
         out.old out.new }
 {
     for turn in 0..times {
@@ -84,7 +84,7 @@ fn tell_repeatedly(
 fn counts_of_bound(alloc: Global, scoping: &Scoping) -> Result<Vec<usize>, AllocError>
     requires { 0 < length scoping.now.scopes }
     ensures { IfOk result (λ counts.
-        AreCounts (bound_in scoping.now) (length scoping.now.symbols) counts.items) }
+        AreCounts (root_symbols scoping.now) (length scoping.now.symbols) counts.items) }
 {
     let mut counts = vec![in alloc; 0usize; scoping.symbols_len()]?;
     let bound = scoping.iter_bindings_in(scoping.root_scope_id());
@@ -105,8 +105,9 @@ fn tell_imports(
     scoping: &Scoping,
     out: &mut Diagnostics,
 ) -> Result<(), AllocError>
-    requires { AreCounts (bound_in scoping.now) (length scoping.now.symbols) counts.now }
-    ensures { Tells result (rows.bound_rows (bound_in scoping.now) 0 scoping.now.symbols) out.old
+    requires { AreCounts (root_symbols scoping.now) (length scoping.now.symbols) counts.now }
+    ensures { Tells result (rows.bound_rows (root_symbols scoping.now) 0 scoping.now.symbols)
+        out.old
         out.new }
 {
     for number in 0..scoping.symbols_len() {

@@ -21,7 +21,7 @@ use std::alloc::{AllocError, Global};
 /// Whether the search for a target ends at the node (ECMAScript 14.9.1, 14.8.1: at a function, a static block or the
 /// program).
 fn is_end(kind: AstKind<'_>) -> bool
-    ensures { result ≡ rows.is_end kind.entry.node.now }
+    ensures { result ≡ rows.ends_jump_search kind.entry.node.now }
 {
     is_boundary(kind) || kind.ty() == AstType::Program
 }
@@ -37,7 +37,8 @@ fn is_loop_or_switch(kind: AstKind<'_>) -> bool
 fn met_by_break<'a>(ctx: &CheckContext<'a, '_>) -> Option<AstKind<'a>>
     requires { IsContext ctx.now }
     ensures { option_map shown result
-        ≡ find (λ node. rows.is_end node || rows.is_loop_or_switch node) (around ctx.now).path }
+        ≡ find (λ node. rows.ends_jump_search node || rows.is_loop_or_switch node)
+        (around ctx.now).path }
 {
     let mut left = ctx.above();
     while let Some(kind) = left.next() {
@@ -52,7 +53,8 @@ fn met_by_break<'a>(ctx: &CheckContext<'a, '_>) -> Option<AstKind<'a>>
 fn met_by_continue<'a>(ctx: &CheckContext<'a, '_>) -> Option<AstKind<'a>>
     requires { IsContext ctx.now }
     ensures { option_map shown result
-        ≡ find (λ node. rows.is_end node || rows.is_loop_node node) (around ctx.now).path }
+        ≡ find (λ node. rows.ends_jump_search node || rows.is_loop_node node)
+        (around ctx.now).path }
 {
     let mut left = ctx.above();
     while let Some(kind) = left.next() {
@@ -67,7 +69,7 @@ fn met_by_continue<'a>(ctx: &CheckContext<'a, '_>) -> Option<AstKind<'a>>
 fn met_by_label<'a>(label: AstKind<'_>, ctx: &CheckContext<'a, '_>) -> Option<AstKind<'a>>
     requires { IsContext ctx.now }
     ensures { option_map shown result
-        ≡ find (λ node. rows.is_end node || rows.is_labelled_by label.entry.node.now node)
+        ≡ find (λ node. rows.ends_jump_search node || rows.is_labelled_by label.entry.node.now node)
         (around ctx.now).path }
 {
     let mut left = ctx.above();

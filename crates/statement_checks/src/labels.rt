@@ -14,7 +14,7 @@ use std::alloc::{AllocError, Global};
 /// Whether no jump leaves the node, and no label around counts in it: a function or a static block (ECMAScript
 /// 15.2.1, 15.7.1, ContainsDuplicateLabels).
 pub(crate) fn is_boundary(kind: AstKind<'_>) -> bool
-    ensures { result ≡ rows.is_boundary kind.entry.node.now }
+    ensures { result ≡ rows.stops_jumps kind.entry.node.now }
 {
     matches!(
         kind.ty(),

@@ -26,7 +26,7 @@ use std::alloc::{AllocError, Global};
 
 /// Whether strict code reserves the name (ECMAScript 12.7.2, Keywords and Reserved Words).
 fn is_reserved(name: &str) -> bool
-    ensures { result ≡ rows.is_reserved (chars name.now) }
+    ensures { result ≡ rows.is_strict_reserved (chars name.now) }
 {
     is_word(name, "implements")
         || is_word(name, "interface")

@@ -24,7 +24,7 @@ use std::alloc::{AllocError, Global};
 
 /// Whether nodes of the kind are parts of an assignment's target, or updates.
 fn is_target(kind: AstType) -> bool
-    ensures { result ≡ rows.is_target kind }
+    ensures { result ≡ rows.is_updated_target kind }
 {
     matches!(
         kind,
@@ -75,7 +75,7 @@ fn met_by_write<'a>(name: AstKind<'_>, ctx: &CheckContext<'a, '_>) -> Option<Ast
 /// Whether a write to the name comes before any member expression, going outward.
 fn is_written(name: AstKind<'_>, ctx: &CheckContext<'_, '_>) -> bool
     requires { IsContext ctx.now }
-    ensures { result ≡ rows.is_written (sight name.entry.node.now ctx.now) }
+    ensures { result ≡ rows.is_write_outward (sight name.entry.node.now ctx.now) }
 {
     match met_by_write(name, ctx) {
         Some(met) => !met.is_member_expression_kind(),

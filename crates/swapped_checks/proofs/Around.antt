@@ -16,8 +16,8 @@ use Rattle.semantic_tree.specs.declared.swap.Setting.{Setting}
 use Rattle.semantic_model.specs.Swap.{renamed_symbol}
 use Rattle.semantic_model.proofs.swapped.Alike.{is_name, may_name}
 use Rattle.check_model.specs.Search.{first}
-use Rattle.check_model.specs.Sight.{Sight, entries_in, entries_of}
-use Rattle.check_model.specs.Surroundings.{outward, links, is_in_class, is_under, node_of, parent_passes}
+use Rattle.check_model.specs.Sight.{Sight, entries_in, symbol_entries}
+use Rattle.check_model.specs.Surroundings.{nodes_outward, links, is_in_class, is_under, node_by_id, parent_passes}
 use Rattle.swapped_checks.specs.SwappedSight.{IsRenamed, renamed_at}
 use Rattle.swapped_checks.proofs.Pairwise.{Each, Both, OfPairs, Agree, any_each, find_each, first_each, passes_both, links_each}
 use Rattle.swapped_checks.proofs.RenamedNodes.{kind_agrees, same_ids, plain_text}
@@ -37,7 +37,7 @@ module _ (f : Name → Name) (s : Sight) (st : Setting) (r : Role) (path : List 
   own_text k h i e = plain_text f k h i s.node t.node own e
 
   pub links_both : Each (OfPairs (IsRenamed f)) (links s) (links t)
-  links_both = links_each (IsRenamed f) (outward s) (outward t) (own, above)
+  links_both = links_each (IsRenamed f) (nodes_outward s) (nodes_outward t) (own, above)
 
   pub in_class : is_in_class t ≡ is_in_class s
   in_class = any_each (IsRenamed f) (λ n. same_kind n.kind kind.Class) (λ n. same_kind n.kind kind.Class) (kind_agrees f (λ k. same_kind k kind.Class)) s.path path above
@@ -48,8 +48,8 @@ module _ (f : Name → Name) (s : Sight) (st : Setting) (r : Role) (path : List 
   pub under : (k : AstType) → is_under k t ≡ is_under k s
   under k = parent_agrees (λ n. same_kind n.kind k) (kind_agrees f (λ j. same_kind j k))
 
-  pub nodes_both : (id : ℕ) → Both (IsRenamed f) (node_of s id) (node_of t id)
-  nodes_both id = find_each (IsRenamed f) (λ n. n.node_id == id) (λ n. n.node_id == id) (λ x y e. λ i. same_ids f x y e i == id) (outward s) (outward t) (own, above)
+  pub nodes_both : (id : ℕ) → Both (IsRenamed f) (node_by_id s id) (node_by_id t id)
+  nodes_both id = find_each (IsRenamed f) (λ n. n.node_id == id) (λ n. n.node_id == id) (λ x y e. λ i. same_ids f x y e i == id) (nodes_outward s) (nodes_outward t) (own, above)
 
   -- the first node on the path where a search by kinds stops
   pub found_both : (stops : AstType → Bool) → Both (IsRenamed f) (find (λ n. stops n.kind) s.path) (find (λ n. stops n.kind) path)
@@ -64,5 +64,5 @@ module _ (f : Name → Name) (s : Sight) (st : Setting) (r : Role) (path : List 
   entries_by (Some n) = ap entries_in (slice_get-map (renamed_symbol f) s.symbols n) ∙ entries_same (slice_get s.symbols n)
 
   -- the declarations of an identifier's symbol
-  pub declared_same : (a b : Node) → IsRenamed f a b → entries_of t b ≡ entries_of s a
+  pub declared_same : (a b : Node) → IsRenamed f a b → symbol_entries t b ≡ symbol_entries s a
   declared_same a b e = ap (λ id. entries_in (option_and_then (slice_get t.symbols) (lookup (nat_eq id) s.declared))) (same_ids f a b e) ∙ entries_by (lookup (nat_eq a.node_id) s.declared)

@@ -23,7 +23,7 @@ use Rattle.check_model.specs.Entries.{before_last, one_before_last}
 use Rattle.check_model.specs.Functions.{may_precede, is_sloppy_repeat, is_async_or_generator, repeat_rows, redeclared_rows, check_function_redeclaration}
 use Rattle.check_model.specs.Rows.{body_rows, labelled_body_rows, left_rows}
 use Rattle.check_model.specs.Search.{rows_if, row_if, rows_of_some, only}
-use Rattle.check_model.specs.Sight.{Sight, entries_of}
+use Rattle.check_model.specs.Sight.{Sight, symbol_entries}
 use Rattle.check_model.specs.Surroundings.{is_strict, is_script, is_typescript, is_at_top, is_in_static_block, parent_passes}
 use Rattle.check_model.specs.TypedLoops as typed
 use Rattle.check_model.specs.Variables.{head_rows, loop_name, check_for_statement_left, check_variable_declaration, name_rows, lets_var_redeclare, check_variable_declarator_redeclaration}
@@ -85,14 +85,14 @@ module _ (f : Name → Name) (keeps : KeepsWords f) (s : Sight) (st : Setting) (
   typed_same for_in x y e = λ i. rows_if (child_agrees f role.Annotation x y e i)
       (some_same R (λ n. type_annotation_in_for_left n.span for_in ∷ []) (λ n. type_annotation_in_for_left n.span for_in ∷ []) (λ c d h. λ j. type_annotation_in_for_left (same_spans f c d h j) for_in ∷ []) (child_of role.Id x) (child_of role.Id y) (child_both f role.Id x y e) i)
 
-  types_same : (for_in : Bool) (a b : Node) → R a b → typed.check_for_statement_left b for_in t ≡ typed.check_for_statement_left a for_in s
+  types_same : (for_in : Bool) (a b : Node) → R a b → typed.check_typed_for_statement_left b for_in t ≡ typed.check_typed_for_statement_left a for_in s
   types_same for_in a b e = λ i. rows_if (kind_agrees f (λ k. same_kind k kind.VariableDeclaration) a b e i)
       (flat_same R (typed.typed_rows for_in) (typed.typed_rows for_in) (typed_same for_in) (all_in role.Declarators a) (all_in role.Declarators b) (all_each f role.Declarators a b e) i)
 
   pub left_same : (for_in : Bool) → left_rows for_in t ≡ left_rows for_in s
   left_same for_in = λ i.
       some_same R (λ n. check_for_statement_left n for_in s) (λ n. check_for_statement_left n for_in t) (heads_same for_in) (child_of role.Left s.node) (child_of role.Left t.node) (child_both f role.Left s.node t.node mine) i
-      ++ some_same R (λ n. typed.check_for_statement_left n for_in s) (λ n. typed.check_for_statement_left n for_in t) (types_same for_in) (child_of role.Left s.node) (child_of role.Left t.node) (child_both f role.Left s.node t.node mine) i
+      ++ some_same R (λ n. typed.check_typed_for_statement_left n for_in s) (λ n. typed.check_typed_for_statement_left n for_in t) (types_same for_in) (child_of role.Left s.node) (child_of role.Left t.node) (child_both f role.Left s.node t.node mine) i
 
   -- ---- variables
 
@@ -113,7 +113,7 @@ module _ (f : Name → Name) (keeps : KeepsWords f) (s : Sight) (st : Setting) (
   names_told a b e =
       again_rows (λ before. row_if (meets before.flags.bits symbol.Function.bits) (redeclaration a.text before.span s.node.span)) (λ before. row_if (meets before.flags.bits symbol.Function.bits) (redeclaration b.text before.span s.node.span))
       (λ before. told_if f (meets before.flags.bits symbol.Function.bits) (meets before.flags.bits symbol.Function.bits) (redeclaration a.text before.span s.node.span ∷ []) (redeclaration b.text before.span s.node.span ∷ []) refl (either_row f a b e.0 before.span s.node.span, tt))
-      (one_before_last (entries_of s a)) (one_before_last (entries_of t b)) (ap one_before_last (declared_same f s st r path above a b e.0))
+      (one_before_last (symbol_entries s a)) (one_before_last (symbol_entries t b)) (ap one_before_last (declared_same f s st r path above a b e.0))
 
   pub declarators_told : AreToldAgain f (check_variable_declarator_redeclaration s) (check_variable_declarator_redeclaration t)
   declarators_told =
@@ -140,8 +140,8 @@ module _ (f : Name → Name) (keeps : KeepsWords f) (s : Sight) (st : Setting) (
       (λ before. told_if f (not (may_precede s before)) (not (may_precede s before)) (repeat_rows s a before (before_last entries)) (repeat_rows t b before (before_last entries)) refl (repeats_told a b e before (before_last entries)))
       (one_before_last entries) (one_before_last entries) refl
 
-  idents_told : (a b : Node) → R a b → AreToldAgain f (redeclared_rows s a (entries_of s a)) (redeclared_rows t b (entries_of t b))
-  idents_told a b e = subst (λ es. AreToldAgain f (redeclared_rows s a (entries_of s a)) (redeclared_rows t b es)) (sym (declared_same f s st r path above a b e)) (redeclared_told a b e (entries_of s a))
+  idents_told : (a b : Node) → R a b → AreToldAgain f (redeclared_rows s a (symbol_entries s a)) (redeclared_rows t b (symbol_entries t b))
+  idents_told a b e = subst (λ es. AreToldAgain f (redeclared_rows s a (symbol_entries s a)) (redeclared_rows t b es)) (sym (declared_same f s st r path above a b e)) (redeclared_told a b e (symbol_entries s a))
 
   in_if_same : is_function_decl_part_of_if_statement t ≡ is_function_decl_part_of_if_statement s
   in_if_same = λ i. function_agrees f s.node t.node mine i && (not (is_strict s) && under f s st r path above kind.IfStatement i)
@@ -149,6 +149,6 @@ module _ (f : Name → Name) (keeps : KeepsWords f) (s : Sight) (st : Setting) (
   pub functions_told : AreToldAgain f (check_function_redeclaration s) (check_function_redeclaration t)
   functions_told =
       told_if f (not (is_typescript s) && (is_declared_function s.node && not (is_function_decl_part_of_if_statement s))) (not (is_typescript t) && (is_declared_function t.node && not (is_function_decl_part_of_if_statement t)))
-      (rows_of_some (λ ident. redeclared_rows s ident (entries_of s ident)) (child_of role.Id s.node)) (rows_of_some (λ ident. redeclared_rows t ident (entries_of t ident)) (child_of role.Id t.node))
+      (rows_of_some (λ ident. redeclared_rows s ident (symbol_entries s ident)) (child_of role.Id s.node)) (rows_of_some (λ ident. redeclared_rows t ident (symbol_entries t ident)) (child_of role.Id t.node))
       (λ i. not (is_typescript s) && (function_agrees f s.node t.node mine i && not (in_if_same i)))
-      (some_rows R f (λ ident. redeclared_rows s ident (entries_of s ident)) (λ ident. redeclared_rows t ident (entries_of t ident)) idents_told (child_of role.Id s.node) (child_of role.Id t.node) (child_both f role.Id s.node t.node mine))
+      (some_rows R f (λ ident. redeclared_rows s ident (symbol_entries s ident)) (λ ident. redeclared_rows t ident (symbol_entries t ident)) idents_told (child_of role.Id s.node) (child_of role.Id t.node) (child_both f role.Id s.node t.node mine))

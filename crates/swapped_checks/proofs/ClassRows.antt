@@ -34,7 +34,7 @@ use Rattle.check_model.specs.Classes.{members, private_use_rows, class_name_rows
 use Rattle.check_model.specs.Entries.{one_before_last}
 use Rattle.check_model.specs.Members as typed
 use Rattle.check_model.specs.Search.{rows_if, row_if, rows_of_some, passes, first, each_between}
-use Rattle.check_model.specs.Sight.{Sight, entries_of}
+use Rattle.check_model.specs.Sight.{Sight, symbol_entries}
 use Rattle.check_model.specs.Surroundings.{is_typescript, first_bytes}
 use Rattle.swapped_checks.specs.SwappedRows.{AreToldAgain}
 use Rattle.swapped_checks.specs.SwappedSight.{IsRenamed, renamed_at, has_plain_pieces, has_plain_keys}
@@ -250,17 +250,17 @@ module _ (f : Name → Name) (keeps : KeepsWords f) (s : Sight) (st : Setting) (
       (subst (λ sp. AreToldAgain f (redeclaration a.text before.span a.span ∷ []) (redeclaration b.text before.span sp ∷ [])) (sym (same_spans f a b e)) (either_row f a b e before.span a.span, tt))
 
   abbrev ident_rows : Sight → Node → List Diagnostic
-  ident_rows z ident = rows_of_some (λ before. row_if (meets before.flags.bits symbol.Function.bits) (redeclaration ident.text before.span ident.span)) (one_before_last (entries_of z ident))
+  ident_rows z ident = rows_of_some (λ before. row_if (meets before.flags.bits symbol.Function.bits) (redeclaration ident.text before.span ident.span)) (one_before_last (symbol_entries z ident))
 
   idents_told : (a b : Node) → IsRenamed f a b → AreToldAgain f (ident_rows s a) (ident_rows t b)
-  idents_told a b e = subst (λ es. AreToldAgain f (ident_rows s a) (rows_of_some (λ before. row_if (meets before.flags.bits symbol.Function.bits) (redeclaration b.text before.span b.span)) (one_before_last es))) (sym (declared_same f s st r path above a b e)) (again_told a b e (one_before_last (entries_of s a)))
+  idents_told a b e = subst (λ es. AreToldAgain f (ident_rows s a) (rows_of_some (λ before. row_if (meets before.flags.bits symbol.Function.bits) (redeclaration b.text before.span b.span)) (one_before_last es))) (sym (declared_same f s st r path above a b e)) (again_told a b e (one_before_last (symbol_entries s a)))
 
   pub redeclared_told : AreToldAgain f (check_class_redeclaration s) (check_class_redeclaration t)
   redeclared_told =
       told_if f (not (is_typescript s)) (not (is_typescript s)) (rows_of_some (ident_rows s) (child_of role.Id s.node)) (rows_of_some (ident_rows t) (child_of role.Id t.node)) refl
       (some_rows (IsRenamed f) f (ident_rows s) (ident_rows t) idents_told (child_of role.Id s.node) (child_of role.Id t.node) (child_both f role.Id s.node t.node mine))
 
-  pub members_same : has_plain_keys s.node ≡ true → typed.check_class t ≡ typed.check_class s
+  pub members_same : has_plain_keys s.node ≡ true → typed.check_class_members t ≡ typed.check_class_members s
   members_same h = λ i.
       rows_if (not (has mark.Abstract s.node)) (flat_same (IsRenamed f) typed.abstract_rows typed.abstract_rows (abstract_same f) (members s.node) (members t.node) (members_each f s.node t.node mine) i)
       ++ rows_if (not s.is_ambient) (between_same f typed.implementation_rows typed.implementation_rows (implementations_same f keeps) None None (members s.node) (members t.node) tt (members_kept f (members s.node) (members t.node) (members_each f s.node t.node mine) h) i)

@@ -19,7 +19,7 @@ use Rattle.semantic_diagnostics.specs.declared.diagnostic.Diagnostic.{Diagnostic
 use Rattle.semantic_diagnostics.specs.Statements.{invalid_break, invalid_continue, invalid_label_jump_target, invalid_label_target, invalid_label_non_iteration, label_redeclaration}
 use Rattle.semantic_model.proofs.form.Clauses.{kind_is}
 use Rattle.check_model.specs.Groups.{is_jump_boundary, is_label, under_labels}
-use Rattle.check_model.specs.Jumps.{is_boundary, is_end, is_labelled_by, unlabelled_rows, continue_rows, met_rows, labelled_rows, break_rows, continue_rows_by, check_break_statement, check_continue_statement, same_label_around, own_label_rows, check_labeled_statement}
+use Rattle.check_model.specs.Jumps.{stops_jumps, ends_jump_search, is_labelled_by, unlabelled_rows, continue_rows, met_rows, labelled_rows, break_rows, continue_rows_by, check_break_statement, check_continue_statement, same_label_around, own_label_rows, check_labeled_statement}
 use Rattle.check_model.specs.Search.{row_if, rows_of_some}
 use Rattle.check_model.specs.Sight.{Sight}
 use Rattle.swapped_checks.specs.SwappedSight.{IsRenamed, has_plain_labels}
@@ -82,17 +82,17 @@ module _ (f : Name → Name) where
     unlabelled_same : (test : AstType → Bool) (refusal : Diagnostic) → unlabelled_rows (λ n. test n.kind) refusal ys ≡ unlabelled_rows (λ n. test n.kind) refusal xs
     unlabelled_same test refusal =
         some_same L (λ met. row_if (not (test met.kind)) refusal) (λ met. row_if (not (test met.kind)) refusal) (λ x y e. λ i. row_if (not (kinds_agree test x y e i)) refusal)
-        (find (λ n. is_end n || test n.kind) xs) (find (λ n. is_end n || test n.kind) ys)
-        (find_each L (λ n. is_end n || test n.kind) (λ n. is_end n || test n.kind) (kinds_agree (λ k. (is_jump_boundary k || same_kind k kind.Program) || test k)) xs ys above)
+        (find (λ n. ends_jump_search n || test n.kind) xs) (find (λ n. ends_jump_search n || test n.kind) ys)
+        (find_each L (λ n. ends_jump_search n || test n.kind) (λ n. ends_jump_search n || test n.kind) (kinds_agree (λ k. (is_jump_boundary k || same_kind k kind.Program) || test k)) xs ys above)
 
     met_same : (g h : Node → List Diagnostic) → ((x y : Node) → L x y → h y ≡ g x) → (a b : Node) → SameLabel a b → (x y : Node) → L x y → met_rows h b y ≡ met_rows g a x
     met_same g h k a b l x y e = λ i. if kinds_agree is_jump_boundary x y e i then invalid_label_jump_target (l.1 i) ∷ [] else (if kinds_agree (λ j. same_kind j kind.Program) x y e i then invalid_label_target (l.1 i) ∷ [] else k x y e i)
 
     jumps_same : (g h : Node → List Diagnostic) → ((x y : Node) → L x y → h y ≡ g x) → (a b : Node) → SameLabel a b → labelled_rows h b ys ≡ labelled_rows g a xs
     jumps_same g h k a b l =
-        some_same L (met_rows g a) (met_rows h b) (met_same g h k a b l) (find (λ n. is_end n || is_labelled_by a n) xs) (find (λ n. is_end n || is_labelled_by b n) ys)
-        (find_each L (λ n. is_end n || is_labelled_by a n) (λ n. is_end n || is_labelled_by b n)
-        (λ x y e. (λ i. is_end y || (is kind.LabeledStatement y && whose role.Label (has_text (l.0 i)) y)) ∙ (λ i. kinds_agree (λ j. is_jump_boundary j || same_kind j kind.Program) x y e i || labels_agree a.text x y e i)) xs ys above)
+        some_same L (met_rows g a) (met_rows h b) (met_same g h k a b l) (find (λ n. ends_jump_search n || is_labelled_by a n) xs) (find (λ n. ends_jump_search n || is_labelled_by b n) ys)
+        (find_each L (λ n. ends_jump_search n || is_labelled_by a n) (λ n. ends_jump_search n || is_labelled_by b n)
+        (λ x y e. (λ i. ends_jump_search y || (is kind.LabeledStatement y && whose role.Label (has_text (l.0 i)) y)) ∙ (λ i. kinds_agree (λ j. is_jump_boundary j || same_kind j kind.Program) x y e i || labels_agree a.text x y e i)) xs ys above)
 
     continues_same : (a b : Node) → SameLabel a b → (x y : Node) → L x y → continue_rows b y ≡ continue_rows a x
     continues_same a b l x y e = λ i. if kind_agrees f is_loop (under_labels x) (under_labels y) (unwrapped_each f is_label role.Body x y e.0) i then []
@@ -115,7 +115,7 @@ module _ (f : Name → Name) where
         some_same L (λ outer. rows_of_some (λ one. label_redeclaration a.text one.span a.span ∷ []) (child_of role.Label outer)) (λ outer. rows_of_some (λ one. label_redeclaration b.text one.span b.span ∷ []) (child_of role.Label outer))
         (λ x y e. some_same R (λ one. label_redeclaration a.text one.span a.span ∷ []) (λ one. label_redeclaration b.text one.span b.span ∷ []) (λ c d h. λ i. label_redeclaration (l.0 i) (same_spans f c d h i) (l.1 i) ∷ []) (child_of role.Label x) (child_of role.Label y) (child_both f role.Label x y e.0))
         (same_label_around a xs) (same_label_around b ys)
-        (find_before_each L is_boundary (is_labelled_by a) is_boundary (is_labelled_by b) (kinds_agree is_jump_boundary)
+        (find_before_each L stops_jumps (is_labelled_by a) stops_jumps (is_labelled_by b) (kinds_agree is_jump_boundary)
         (λ x y e. (λ i. is kind.LabeledStatement y && whose role.Label (has_text (l.0 i)) y) ∙ labels_agree a.text x y e) xs ys above)
 
 module _ (f : Name → Name) (s : Sight) (st : Setting) (r : Role) (path : List Node) (above : Each (IsRenamed f) s.path path) (labels : list_all has_plain_labels (s.node ∷ s.path) ≡ true) where

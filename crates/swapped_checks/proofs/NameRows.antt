@@ -16,7 +16,7 @@ use Rattle.semantic_diagnostics.specs.declared.contexts.ReservedKeywordContext.T
 use Rattle.semantic_diagnostics.specs.declared.contexts.UnexpectedIdentifierAssignContext.TheVariants as assigned
 use Rattle.semantic_diagnostics.specs.Names.{reserved_keyword, class_static_block_await, unexpected_identifier_assign, invalid_let_declaration, unexpected_arguments}
 use Rattle.semantic_model.proofs.form.Clauses.{kind_is}
-use Rattle.check_model.specs.Names.{is_reserved, reserved_because, not_assigned_because, check_identifier, is_eval_or_arguments, is_pattern_part, is_second_under, is_plain_binding, eval_binding_rows, declaration_around, let_rows, check_binding_identifier, is_target, writes_to, is_written, is_field_value, is_static_block, owner_of_arguments, arguments_rows, check_identifier_reference}
+use Rattle.check_model.specs.Names.{is_strict_reserved, reserved_because, not_assigned_because, check_identifier, is_eval_or_arguments, is_pattern_part, is_second_under, is_plain_binding, eval_binding_rows, declaration_around, let_rows, check_binding_identifier, is_updated_target, writes_to, is_write_outward, is_field_value, is_static_block, owner_of_arguments, arguments_rows, check_identifier_reference}
 use Rattle.check_model.specs.Search.{rows_if, row_if, passes, find_before}
 use Rattle.check_model.specs.Sight.{Sight}
 use Rattle.check_model.specs.Surroundings.{is_strict, is_module, is_definition, scope_passes, links}
@@ -32,7 +32,7 @@ pub record IsQuiet (name : Name) : Type 0 where
   pub no_eval : bytes_eq name (codes "eval") ≡ false
   pub no_arguments : bytes_eq name (codes "arguments") ≡ false
   pub no_let : bytes_eq name (codes "let") ≡ false
-  pub not_reserved : is_reserved name ≡ false
+  pub not_reserved : is_strict_reserved name ≡ false
 
 nothing_if : (b : Bool) → rows_if {A = Diagnostic} b [] ≡ []
 nothing_if true = refl
@@ -71,7 +71,7 @@ module _ (f : Name → Name) (keeps : KeepsWords f) (s : Sight) (st : Setting) (
     identifier_same = λ i.
         rows_if (not s.is_ambient)
         (if bytes_eq (same i) (codes "await") then (if is_module s then reserved_keyword (same i) s.node.span reserved.ModuleAwait ∷ [] else row_if (scope_passes (λ seen. seen.is_static_block) s) (class_static_block_await s.node.span))
-        else row_if (is_reserved (same i) && is_strict s) (reserved_keyword (same i) s.node.span (because_same i)))
+        else row_if (is_strict_reserved (same i) && is_strict s) (reserved_keyword (same i) s.node.span (because_same i)))
 
     -- ---- binding identifiers
 
@@ -127,9 +127,9 @@ module _ (f : Name → Name) (keeps : KeepsWords f) (s : Sight) (st : Setting) (
       left_agrees a b e = λ i. kind_agrees f (λ k. same_kind k kind.IdentifierReference) a b e i && word_agrees f keeps s.node.text word a b e i
 
       writes_agree : Agree R (writes_to s.node.text) (writes_to s.node.text)
-      writes_agree a b e = λ i. kind_agrees f is_target a b e i || (kind_agrees f (λ k. same_kind k kind.AssignmentExpression) a b e i && whose_agrees f role.Left (λ n. is kind.IdentifierReference n && has_text s.node.text n) (λ n. is kind.IdentifierReference n && has_text s.node.text n) left_agrees a b e i)
+      writes_agree a b e = λ i. kind_agrees f is_updated_target a b e i || (kind_agrees f (λ k. same_kind k kind.AssignmentExpression) a b e i && whose_agrees f role.Left (λ n. is kind.IdentifierReference n && has_text s.node.text n) (λ n. is kind.IdentifierReference n && has_text s.node.text n) left_agrees a b e i)
 
-      written_same : is_written t ≡ is_written s
+      written_same : is_write_outward t ≡ is_write_outward s
       written_same =
           ap (λ u. passes (λ n. not (is_member n.kind)) (find (λ n. is_member n.kind || writes_to u n) path)) same
           ∙ passes_both R (λ n. not (is_member n.kind)) (λ n. not (is_member n.kind)) (kind_agrees f (λ k. not (is_member k)))

@@ -10,7 +10,7 @@ use Rattle.semantic_kinds.specs.declared.role.Role.{Role}
 use Rattle.semantic_syntax.specs.Tables.{Name}
 use Rattle.semantic_tree.specs.Forest.{Forest, nothing, tree}
 use Rattle.semantic_tree.specs.Nodes.{first_of}
-use Rattle.semantic_tree.specs.Renamed.{is_named, setting_below, renamed_text, renamed, renamed_node}
+use Rattle.semantic_tree.specs.Renamed.{is_program_name, setting_below, renamed_text, renamed, renamed_node}
 use Rattle.semantic_tree.specs.Views.{is, has, has_text, has_child, holds, whose, is_there, is_child_in, all_in, child_of, children_of}
 use Rattle.semantic_tree.specs.declared.node.Node.{Node}
 use Rattle.semantic_tree.specs.declared.swap.Setting.{Setting}
@@ -56,7 +56,7 @@ module _ (f : Name → Name) where
   -- ---- texts
 
   pub either_text : (a b : Node) → R a b → (b.text ≡ a.text) ⊎ (b.text ≡ f a.text)
-  either_text _ _ (renamed_at st r node) = go (is_named st r node.kind)
+  either_text _ _ (renamed_at st r node) = go (is_program_name st r node.kind)
     where
       go : (c : Bool) → ((if c then f node.text else node.text) ≡ node.text) ⊎ ((if c then f node.text else node.text) ≡ f node.text)
       go true = inr refl

@@ -21,7 +21,7 @@ use Rattle.semantic_model.proofs.swapped.AlikeProgram.{Keeps}
 use Rattle.semantic_model.proofs.swapped.AlikeScopes.{re, opened_same}
 use Rattle.semantic_model.proofs.swapped.AlikeSteps.{SamePlace}
 use Rattle.check_model.specs.Classes.{members}
-use Rattle.check_model.specs.SightOf.{seen_scope, or_own, scopes_at, pair_of, list_if, bound_at, sight_of}
+use Rattle.check_model.specs.SightOf.{seen_scope, or_own, scopes_at, symbol_pair, list_if, bound_by_root, sight_of}
 use Rattle.swapped_checks.specs.SwappedPrograms.{holds_below}
 use Rattle.swapped_checks.specs.SwappedSight.{AreRenamed, IsRenamedSight, HasPlainParts, has_plain_labels, has_plain_pieces}
 use Rattle.swapped_checks.proofs.PlainForm.{has_own_pieces}
@@ -71,15 +71,15 @@ module _ (f : Name → Name) (words : KeepsWords f) (keeps : Keeps f) (test : No
   scopes_seen : (p q : Place) → SamePlace f p q → scopes_at q ≡ scopes_at p
   scopes_seen p q s = ap scopes_at s.is ∙ scopes_by p s.u s.g s.path (opened_same f p s.u s.g s.path 0 s.node s.above) p.chain
 
-  pairs_same : (ms : List Made) → map pair_of (map (renamed_made f) ms) ≡ map pair_of ms
+  pairs_same : (ms : List Made) → map symbol_pair (map (renamed_made f) ms) ≡ map symbol_pair ms
   pairs_same [] = refl
-  pairs_same (m ∷ ms) = ap (λ ps. pair_of m ∷ ps) (pairs_same ms)
+  pairs_same (m ∷ ms) = ap (λ ps. symbol_pair m ∷ ps) (pairs_same ms)
 
   seconds : (bs : List (Name × ℕ)) → map (λ b. b.1) (map (renamed_key f) bs) ≡ map (λ b. b.1) bs
   seconds [] = refl
   seconds (b ∷ bs) = ap (λ ns. b.1 ∷ ns) (seconds bs)
 
-  bound_seen : (a b : Node) → W a b → (st : State) → bound_at b (renamed_state f st) ≡ bound_at a st
+  bound_seen : (a b : Node) → W a b → (st : State) → bound_by_root b (renamed_state f st) ≡ bound_by_root a st
   bound_seen a b w st = λ i. list_if (same_kind (same_kinds f a b w.0 i) kind.Program) ((ap (map (λ b. b.1)) (bound_by_same f keeps st.bindings 0) ∙ seconds (bound_by st.bindings 0)) i)
 
   -- ---- the sight

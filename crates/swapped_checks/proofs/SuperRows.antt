@@ -17,7 +17,7 @@ use Rattle.semantic_diagnostics.specs.Functions.{unexpected_super_call, super_wi
 use Rattle.check_model.specs.Search.{first, row_if, rows_of_some, neighbours, onward}
 use Rattle.check_model.specs.Sight.{Sight, SeenScope, SeenClass}
 use Rattle.check_model.specs.Super.{Verdict, allowed, allowed_unless_call, allowed_in_derived, refused, if_call, is_call_node, call_around, is_call, is_scope_of, is_element, links_between, leaves_value, is_object_method, is_method, function_verdict, scope_function_verdict, decides, kept_after, search_from, refused_row, verdict_rows, check_super}
-use Rattle.check_model.specs.Surroundings.{outward, links, node_of}
+use Rattle.check_model.specs.Surroundings.{nodes_outward, links, node_by_id}
 use Rattle.swapped_checks.specs.SwappedSight.{IsRenamed}
 use Rattle.swapped_checks.proofs.Pairwise.{Each, Both, OfPairs, Agree, find_each, first_each, onward_each, while_each, links_each, passes_both, some_same}
 use Rattle.swapped_checks.proofs.RenamedNodes.{kind_agrees, same_ids, same_spans, guarded, child_agrees, inner_agrees}
@@ -66,9 +66,9 @@ module _ (f : Name → Name) (s : Sight) (st : Setting) (r : Role) (path : List 
       (find (λ p. is_element p.1.kind) (links_between s from class)) (find (λ p. is_element p.1.kind) (links_between t from class))
       (find_each P (λ p. is_element p.1.kind) (λ p. is_element p.1.kind) (λ p q e. kind_agrees f is_element p.1 q.1 e.1) (links_between s from class) (links_between t from class)
       (while_each P (λ p. not (p.1.node_id == class)) (λ p. not (p.1.node_id == class)) (λ p q e. λ i. not (same_ids f p.1 q.1 e.1 i == class))
-      (neighbours (onward (λ n. n.node_id == from) (outward s))) (neighbours (onward (λ n. n.node_id == from) (outward t)))
-      (links_each R (onward (λ n. n.node_id == from) (outward s)) (onward (λ n. n.node_id == from) (outward t))
-      (onward_each R (λ n. n.node_id == from) (λ n. n.node_id == from) (λ x y e. λ i. same_ids f x y e i == from) (outward s) (outward t) (own f s st r path above, above)))))
+      (neighbours (onward (λ n. n.node_id == from) (nodes_outward s))) (neighbours (onward (λ n. n.node_id == from) (nodes_outward t)))
+      (links_each R (onward (λ n. n.node_id == from) (nodes_outward s)) (onward (λ n. n.node_id == from) (nodes_outward t))
+      (onward_each R (λ n. n.node_id == from) (λ n. n.node_id == from) (λ x y e. λ i. same_ids f x y e i == from) (nodes_outward s) (nodes_outward t) (own f s st r path above, above)))))
 
   object_agrees : Agree R is_object_method is_object_method
   object_agrees = guarded f kind.ObjectProperty (λ u ms. has_mark ms mark.Method || (bytes_eq u (codes "get") || bytes_eq u (codes "set"))) refl refl
@@ -124,12 +124,12 @@ module _ (f : Name → Name) (s : Sight) (st : Setting) (r : Role) (path : List 
   refused_same (Some x) None e = absurd e
   refused_same (Some x) (Some y) e = ap unexpected_super_call (same_spans f x y e)
 
-  derived_by : (o : Option SeenClass) → rows_of_some (λ class. row_if (not (has_child role.Heritage class)) (super_without_derived_class s.node.span class.span)) (option_and_then (λ class. node_of t class.node) o) ≡ rows_of_some (λ class. row_if (not (has_child role.Heritage class)) (super_without_derived_class s.node.span class.span)) (option_and_then (λ class. node_of s class.node) o)
+  derived_by : (o : Option SeenClass) → rows_of_some (λ class. row_if (not (has_child role.Heritage class)) (super_without_derived_class s.node.span class.span)) (option_and_then (λ class. node_by_id t class.node) o) ≡ rows_of_some (λ class. row_if (not (has_child role.Heritage class)) (super_without_derived_class s.node.span class.span)) (option_and_then (λ class. node_by_id s class.node) o)
   derived_by None = refl
   derived_by (Some class) =
       some_same R (λ c. row_if (not (has_child role.Heritage c)) (super_without_derived_class s.node.span c.span)) (λ c. row_if (not (has_child role.Heritage c)) (super_without_derived_class s.node.span c.span))
       (λ x y e. λ i. row_if (not (child_agrees f role.Heritage x y e i)) (super_without_derived_class s.node.span (same_spans f x y e i)))
-      (node_of s class.node) (node_of t class.node) (nodes_both f s st r path above class.node)
+      (node_by_id s class.node) (node_by_id t class.node) (nodes_both f s st r path above class.node)
 
   rows_same : (v : Verdict) (kept : List SeenClass) → verdict_rows t (v, kept) ≡ verdict_rows s (v, kept)
   rows_same allowed kept = refl

@@ -17,7 +17,7 @@ use Rattle.semantic_diagnostics.specs.declared.diagnostic.Diagnostic.{Diagnostic
 use Rattle.semantic_model.specs.Swap.{renamed_symbol}
 use Rattle.semantic_model.proofs.once.ListedUnder.{name_tells}
 use Rattle.semantic_model.proofs.swapped.AlikeProgram.{swap_keeps}
-use Rattle.check_model.specs.Names.{is_reserved, check_binding_identifier, check_identifier_reference, check_private_identifier_outside_class}
+use Rattle.check_model.specs.Names.{is_strict_reserved, check_binding_identifier, check_identifier_reference, check_private_identifier_outside_class}
 use Rattle.check_model.specs.Bodies.{check_with_statement}
 use Rattle.check_model.specs.Variables.{check_for_of_statement}
 use Rattle.semantic_diagnostics.specs.Names.{private_not_in_class}
@@ -70,7 +70,7 @@ quiet_name name h =
       no_eval = one (codes "eval") refl;
       no_arguments = one (codes "arguments") refl;
       no_let = one (codes "let") refl;
-      not_reserved = behind (bytes_eq name (codes "ts-empty-body")) (is_reserved name) (behind (bytes_eq name (codes "ts-declare")) _ (behind (bytes_eq name (codes "use strict")) _ (behind (bytes_eq name (codes "var")) _ (behind (bytes_eq name (codes "__proto__")) _ (behind (bytes_eq name (codes "eval")) _ (behind (bytes_eq name (codes "await")) _ (behind (bytes_eq name (codes "arguments")) _ h)))))));
+      not_reserved = behind (bytes_eq name (codes "ts-empty-body")) (is_strict_reserved name) (behind (bytes_eq name (codes "ts-declare")) _ (behind (bytes_eq name (codes "use strict")) _ (behind (bytes_eq name (codes "var")) _ (behind (bytes_eq name (codes "__proto__")) _ (behind (bytes_eq name (codes "eval")) _ (behind (bytes_eq name (codes "await")) _ (behind (bytes_eq name (codes "arguments")) _ h)))))));
     }
 
 pub swap_words : (a b : Name) → is_rule_word a ≡ false → is_rule_word b ≡ false → KeepsWords (swap a b)
@@ -158,9 +158,9 @@ module _ (f : Name → Name) (keeps : KeepsWords f) where
       rows_told kind.VariableDeclarator e = declarators_told f keeps s st r path above
       rows_told kind.Function e = functions_told f keeps s st r path above
       rows_told kind.Class e =
-          told_append f (check_class s ++ check_class_redeclaration s) (check_class t ++ check_class_redeclaration t) (typed.check_class s) (typed.check_class t)
+          told_append f (check_class s ++ check_class_redeclaration s) (check_class t ++ check_class_redeclaration t) (typed.check_class_members s) (typed.check_class_members t)
           (told_append f (check_class s) (check_class t) (check_class_redeclaration s) (check_class_redeclaration t) (told_equal f (check_class s) (check_class t) (classes_same f keeps s st r path above e)) (redeclared_told f keeps s st r path above))
-          (told_equal f (typed.check_class s) (typed.check_class t) (members_same f keeps s st r path above parts.keys))
+          (told_equal f (typed.check_class_members s) (typed.check_class_members t) (members_same f keeps s st r path above parts.keys))
       rows_told kind.MethodDefinition e = same_told kind.MethodDefinition (methods_same f keeps s st r path above e)
       rows_told kind.FormalParameters e = parameters_told f keeps s st r path above e
       rows_told kind.Super e = same_told kind.Super (super_same f s st r path above)

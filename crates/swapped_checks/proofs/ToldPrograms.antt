@@ -16,14 +16,14 @@ use Rattle.semantic_tree.specs.Views.{is}
 use Rattle.semantic_tree.specs.declared.node.Node.{Node}
 use Rattle.semantic_model.specs.Declaration.{How, plain, hoisted, moved, caught, Declaration}
 use Rattle.semantic_model.specs.Binder.{declared_on_entering, declared_on_opening}
-use Rattle.semantic_model.specs.Event.{takes_over, declares, written_declarations, any_bars, is_barred, staying, placed_by, is_catch_body, taken_over, declares_all, events_of, events}
+use Rattle.semantic_model.specs.Event.{takes_over, declares, written_declarations, any_bars, is_barred, staying_declaration, placed_by, is_catch_body, taken_over, declares_all, events_of, events}
 use Rattle.semantic_model.specs.Fold.{Conflict, State, start}
 use Rattle.semantic_model.specs.Hoist.{run}
 use Rattle.semantic_model.specs.Place.{Place, OpenScope, innermost, outside}
 use Rattle.semantic_model.specs.Reference.{references}
 use Rattle.semantic_model.specs.Step.{Step, entering, opening, header_ending, closing, leaving, steps}
 use Rattle.semantic_model.specs.TablesOf.{entry_of}
-use Rattle.semantic_model.specs.Tie.{Tie, symbol_of, ties}
+use Rattle.semantic_model.specs.Tie.{Tie, tied_symbol, ties}
 use Rattle.semantic_model.proofs.swapped.Alike.{map_append}
 use Rattle.semantic_model.proofs.swapped.AlikeBinder.{renamed_declaration, ren, parent_kind}
 use Rattle.semantic_model.proofs.swapped.AlikeEvents.{renamed_event, written_same}
@@ -31,7 +31,7 @@ use Rattle.semantic_model.proofs.swapped.AlikeFold.{renamed_state, run_same}
 use Rattle.semantic_model.proofs.swapped.AlikeProgram.{Keeps, swap_keeps, program_steps}
 use Rattle.semantic_model.proofs.swapped.AlikeSteps.{SamePlace, AlikeStep, AlikeSteps}
 use Rattle.semantic_model.proofs.swapped.AlikeTies.{tables_renamed}
-use Rattle.check_model.specs.DiagnosticsOf.{told, conflicts_since, rows_at, told_along, free_of, diagnostics_of}
+use Rattle.check_model.specs.DiagnosticsOf.{conflict_diagnostic, conflicts_since, rows_at, told_along, free_reference_nodes, diagnostics_of}
 use Rattle.check_model.specs.SightOf.{free_by, free_nodes, sight_of}
 use Rattle.swapped_checks.specs.SwappedPrograms.{holds_within, is_other_string}
 use Rattle.swapped_checks.specs.RuleWords.{rule_words, is_rule_word}
@@ -62,9 +62,9 @@ module _ (f : Name → Name) (words : KeepsWords f) (keeps : Keeps f) where
   barred_same ds d (c ∷ cs) = λ i. bars_same d c ds i || barred_same ds d cs i
 
   placed_same : (how : How) (ds : List Declaration) (d : Declaration) → placed_by how (ren f keeps ds) (renamed_declaration f d) ≡ renamed_declaration f (placed_by how ds d)
-  placed_same moved ds d = ap (λ b. if b then staying (renamed_declaration f d) else renamed_declaration f d) (barred_same ds d (outside d.route.passed)) ∙ go (is_barred ds d (outside d.route.passed))
+  placed_same moved ds d = ap (λ b. if b then staying_declaration (renamed_declaration f d) else renamed_declaration f d) (barred_same ds d (outside d.route.passed)) ∙ go (is_barred ds d (outside d.route.passed))
     where
-      go : (b : Bool) → (if b then staying (renamed_declaration f d) else renamed_declaration f d) ≡ renamed_declaration f (if b then staying d else d)
+      go : (b : Bool) → (if b then staying_declaration (renamed_declaration f d) else renamed_declaration f d) ≡ renamed_declaration f (if b then staying_declaration d else d)
       go true = refl
       go false = refl
   placed_same plain ds d = refl
@@ -104,7 +104,7 @@ module _ (f : Name → Name) (words : KeepsWords f) (keeps : Keeps f) where
   since_same : (before now : State) → conflicts_since (renamed_state f before) (renamed_state f now) ≡ map renamed_conflict (conflicts_since before now)
   since_same before now = ap (λ n. drop n (map renamed_conflict now.conflicts)) (length-map before.conflicts renamed_conflict) ∙ drop-map renamed_conflict (length before.conflicts) now.conflicts
 
-  conflicts_told : (cs : List Conflict) → AreToldAgain f (map told cs) (map told (map renamed_conflict cs))
+  conflicts_told : (cs : List Conflict) → AreToldAgain f (map conflict_diagnostic cs) (map conflict_diagnostic (map renamed_conflict cs))
   conflicts_told [] = tt
   conflicts_told (c ∷ cs) = (redeclared_by_name c.name c.earlier c.later, conflicts_told cs)
 
@@ -112,9 +112,9 @@ module _ (f : Name → Name) (words : KeepsWords f) (keeps : Keeps f) where
 
   free_entries : (ts : List Tie) → free_nodes ts ≡ filter_map (λ r. free_by r.symbol_id r.node_id) (map entry_of ts)
   free_entries [] = refl
-  free_entries (t ∷ ts) = ap (cons_option (free_by (symbol_of t) t.reference.node)) (free_entries ts)
+  free_entries (t ∷ ts) = ap (cons_option (free_by (tied_symbol t) t.reference.node)) (free_entries ts)
 
-  free_same : (p : Tree) → free_of (steps (renamed_tree f p)) ≡ free_of (steps p)
+  free_same : (p : Tree) → free_reference_nodes (steps (renamed_tree f p)) ≡ free_reference_nodes (steps p)
   free_same p =
       free_entries (ties (run start (events (steps (renamed_tree f p)))) (events (steps (renamed_tree f p))) 0 (references (steps (renamed_tree f p))))
       ∙ ap (λ (t : Tables). filter_map (λ r. free_by r.symbol_id r.node_id) t.references) (tables_renamed f keeps p)
@@ -140,10 +140,10 @@ module _ (f : Name → Name) (words : KeepsWords f) (keeps : Keeps f) where
         let now : State = run st (events_of ds x) in
         let then_now : State = run (renamed_state f st) (events_of (ren f keeps ds) y) in
         let is : then_now ≡ renamed_state f now = ap (run (renamed_state f st)) (of_step ds x y h.0) ∙ run_same f keeps st (events_of ds x) in
-        subst (λ z. AreToldAgain f (told_along checks source free ds st (x ∷ xs)) (map told (conflicts_since (renamed_state f st) z) ++ rows_at checks source free z y ++ told_along checks source free (ren f keeps ds) z ys)) (sym is)
-        (told_append f (map told (conflicts_since st now) ++ rows_at checks source free now x) (map told (conflicts_since (renamed_state f st) (renamed_state f now)) ++ rows_at checks source free (renamed_state f now) y) (told_along checks source free ds now xs) (told_along checks source free (ren f keeps ds) (renamed_state f now) ys)
-        (told_append f (map told (conflicts_since st now)) (map told (conflicts_since (renamed_state f st) (renamed_state f now))) (rows_at checks source free now x) (rows_at checks source free (renamed_state f now) y)
-        (subst (λ cs. AreToldAgain f (map told (conflicts_since st now)) (map told cs)) (sym (since_same st now)) (conflicts_told (conflicts_since st now)))
+        subst (λ z. AreToldAgain f (told_along checks source free ds st (x ∷ xs)) (map conflict_diagnostic (conflicts_since (renamed_state f st) z) ++ rows_at checks source free z y ++ told_along checks source free (ren f keeps ds) z ys)) (sym is)
+        (told_append f (map conflict_diagnostic (conflicts_since st now) ++ rows_at checks source free now x) (map conflict_diagnostic (conflicts_since (renamed_state f st) (renamed_state f now)) ++ rows_at checks source free (renamed_state f now) y) (told_along checks source free ds now xs) (told_along checks source free (ren f keeps ds) (renamed_state f now) ys)
+        (told_append f (map conflict_diagnostic (conflicts_since st now)) (map conflict_diagnostic (conflicts_since (renamed_state f st) (renamed_state f now))) (rows_at checks source free now x) (rows_at checks source free (renamed_state f now) y)
+        (subst (λ cs. AreToldAgain f (map conflict_diagnostic (conflicts_since st now)) (map conflict_diagnostic cs)) (sym (since_same st now)) (conflicts_told (conflicts_since st now)))
         (step_told checks now x y h.0 w.0))
         (along checks ds now xs ys h.1 w.1))
 
@@ -153,8 +153,8 @@ module _ (f : Name → Name) (words : KeepsWords f) (keeps : Keeps f) where
       let walk' : List Step = steps (renamed_tree f p) in
       let source : List ℕ = encode_utf8_all p.source in
       subst (λ free. AreToldAgain f (diagnostics_of checks p) (told_along checks source free (written_declarations walk') start walk')) (sym (free_same p))
-      (subst (λ ds. AreToldAgain f (diagnostics_of checks p) (told_along checks source (free_of walk) ds start walk')) (sym (written_same f keeps walk walk' (program_steps f p)))
-      (along test tells source (free_of walk) checks (written_declarations walk) start walk walk' (program_steps f p) (program_spots f test p plain_tree)))
+      (subst (λ ds. AreToldAgain f (diagnostics_of checks p) (told_along checks source (free_reference_nodes walk) ds start walk')) (sym (written_same f keeps walk walk' (program_steps f p)))
+      (along test tells source (free_reference_nodes walk) checks (written_declarations walk) start walk walk' (program_steps f p) (program_spots f test p plain_tree)))
 
 -- ---- two names swapped
 

@@ -18,13 +18,13 @@ use Rattle.semantic_tree.specs.declared.swap.Setting.{Setting}
 use Rattle.semantic_diagnostics.specs.Functions.{type_predicate_only_in_return_type}
 use Rattle.semantic_diagnostics.specs.Types.{infer_declaration_only_permitted_in_extends_clause, enum_member_must_have_initializer, not_allowed_namespace_declaration, not_allowed_ambient_module_declaration, nested_ambient_module_declaration, global_scope_augmentation_should_have_declare_modifier, ts_export_assignment_cannot_be_used_with_other_exports}
 use Rattle.semantic_model.proofs.form.Clauses.{kind_is}
-use Rattle.check_model.specs.Assignments.{exports_by, exports, assignment_row, export_assignment_rows, block_rows}
+use Rattle.check_model.specs.Assignments.{exports_otherwise_by, exports_otherwise, assignment_row, export_assignment_rows, block_rows}
 use Rattle.check_model.specs.Groups.{is_module_kind, is_namespace, under_namespaces}
 use Rattle.check_model.specs.Namespaces.{places, is_top, place_rows, check_ts_namespace_declaration, global_span, check_ts_global_declaration, is_module_place, is_in_module_kind, misplaced_module, check_ts_external_module_declaration}
 use Rattle.check_model.specs.Search.{rows_if, row_if, first, find_last}
 use Rattle.check_model.specs.Sight.{Sight}
 use Rattle.check_model.specs.Surroundings.{is_script}
-use Rattle.check_model.specs.Types.{jsdoc_rows, check_ts_type_annotation, is_plain_value, may_return_predicate, is_predicate_path, check_ts_type_predicate, holds, extends_over, check_ts_infer_type, is_countable, counts_on, last_initializer, member_rows, enum_rows, check_ts_enum_declaration}
+use Rattle.check_model.specs.Types.{jsdoc_rows, check_ts_type_annotation, is_plain_value, may_return_predicate, is_predicate_path, check_ts_type_predicate, span_holds, extends_over, check_ts_infer_type, is_countable, counts_on, last_initializer, member_rows, enum_rows, check_ts_enum_declaration}
 use Rattle.swapped_checks.specs.SwappedSight.{IsRenamed, renamed_at}
 use Rattle.swapped_checks.proofs.Pairwise.{Each, Both, Agree, any_each, find_each, filter_each, first_each, reverse_each, some_same, flat_same, after_same}
 use Rattle.swapped_checks.proofs.RenamedNodes.{kind_agrees, same_kinds, same_spans, plain_text, all_each, child_both, child_agrees, whose_agrees, unwrapped_each}
@@ -105,19 +105,19 @@ module _ (f : Name → Name) where
 
   -- ---- lists of statements
 
-  exports_at : (k : AstType) (a b : Node) → R a b → exports_by k b ≡ exports_by k a
+  exports_at : (k : AstType) (a b : Node) → R a b → exports_otherwise_by k b ≡ exports_otherwise_by k a
   exports_at kind.ExportNamedDeclaration a b e = child_agrees f role.Specifiers a b e
   exports_at kind.ExportFromDeclaration a b e = child_agrees f role.Specifiers a b e
   exports_at _ a b e = refl
 
-  exports_agree : Agree R exports exports
-  exports_agree a b e = ap (λ k. exports_by k b) (same_kinds f a b e) ∙ exports_at a.kind a b e
+  exports_agree : Agree R exports_otherwise exports_otherwise
+  exports_agree a b e = ap (λ k. exports_otherwise_by k b) (same_kinds f a b e) ∙ exports_at a.kind a b e
 
   assignment_same : (a b : Node) → R a b → assignment_row b ≡ assignment_row a
   assignment_same a b e = λ i. row_if (kind_agrees f (λ k. same_kind k kind.TSExportAssignment) a b e i) (ts_export_assignment_cannot_be_used_with_other_exports (same_spans f a b e i))
 
   pub assignments_same : (xs ys : List Node) → Each R xs ys → export_assignment_rows ys ≡ export_assignment_rows xs
-  assignments_same xs ys e = λ i. rows_if (any_each R exports exports exports_agree xs ys e i) (flat_same R assignment_row assignment_row assignment_same xs ys e i)
+  assignments_same xs ys e = λ i. rows_if (any_each R exports_otherwise exports_otherwise exports_agree xs ys e i) (flat_same R assignment_row assignment_row assignment_same xs ys e i)
 
   block_same : (a b : Node) → R a b → block_rows b ≡ block_rows a
   block_same a b e = assignments_same (all_in role.Body a) (all_in role.Body b) (all_each f role.Body a b e)
@@ -168,7 +168,7 @@ module _ (f : Name → Name) (s : Sight) (st : Setting) (r : Role) (path : List 
   predicates_same = ap (λ b. row_if (not b) (type_predicate_only_in_return_type s.node.span)) (predicate_path f s.path path above)
 
   extends_agree : Agree (IsRenamed f) (extends_over s.node.span) (extends_over s.node.span)
-  extends_agree a b e = λ i. kind_agrees f (λ k. same_kind k kind.TSConditionalType) a b e i && whose_agrees f role.Extends (λ n. holds n.span s.node.span) (λ n. holds n.span s.node.span) (λ x y h. ap (λ sp. holds sp s.node.span) (same_spans f x y h)) a b e i
+  extends_agree a b e = λ i. kind_agrees f (λ k. same_kind k kind.TSConditionalType) a b e i && whose_agrees f role.Extends (λ n. span_holds n.span s.node.span) (λ n. span_holds n.span s.node.span) (λ x y h. ap (λ sp. span_holds sp s.node.span) (same_spans f x y h)) a b e i
 
   pub infers_same : check_ts_infer_type t ≡ check_ts_infer_type s
   infers_same = ap (λ b. row_if (not b) (infer_declaration_only_permitted_in_extends_clause s.node.span)) (any_each (IsRenamed f) (extends_over s.node.span) (extends_over s.node.span) extends_agree s.path path above)

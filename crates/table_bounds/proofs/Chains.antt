@@ -20,7 +20,7 @@ use Rattle.semantic_model.specs.Cursor.{cursor_after, on_entering, on_leaving}
 use Rattle.semantic_model.specs.Inside.{opens, is_inside, is_in_header, is_parameter_decorator, scopes_in, body_number}
 use Rattle.semantic_model.specs.Place.{Place, OpenScope, outside, is_strict}
 use Rattle.semantic_model.specs.ScopeKind.{strict_if, strict_by_body, accessor, value_of, method_flags, flags_of_kind, opened_scope}
-use Rattle.semantic_model.specs.Step.{Step, entering, opening, header_ending, closing, leaving, scope_at, next_at, opening_at, ending_after, opening_last, chain_within, child_place, cursor_past, steps_below, root_place, steps}
+use Rattle.semantic_model.specs.Step.{Step, entering, opening, header_ending, closing, leaving, scope_at, next_at, opening_at, ending_after, opening_last, child_scopes, child_place, cursor_past, steps_below, root_place, steps}
 use Rattle.semantic_model.proofs.steps.EachStep.{EachStep, each-append, each_of_node}
 use Rattle.semantic_model.proofs.steps.Opened.{left_to_open, inside_opens}
 use Rattle.semantic_model.proofs.steps.TurnCases.{ending_case}
@@ -128,7 +128,7 @@ IsBoundedStep (header_ending p s) = Unit {0}
 IsBoundedStep (closing p s) = Unit {0}
 IsBoundedStep (leaving p) = Unit {0}
 
-within_bounded : (p : Place) (r : Role) (own : Option OpenScope) → IsBoundedChain p.chain → IfSome own IsBoundedScope → IsBoundedChain (chain_within p r own)
+within_bounded : (p : Place) (r : Role) (own : Option OpenScope) → IsBoundedChain p.chain → IfSome own IsBoundedScope → IsBoundedChain (child_scopes p r own)
 within_bounded p r None h k = h
 within_bounded p r (Some s) h k = by (is_inside p.node.kind r)
   where
@@ -143,7 +143,7 @@ child_bounded p own cursor r node h k way few = record {
   below = few;
 }
   where
-    by : (b : Bool) → IsBoundedChain (cond b (outside p.chain) (chain_within p r own))
+    by : (b : Bool) → IsBoundedChain (cond b (outside p.chain) (child_scopes p r own))
     by true = outside_bounded p.chain h.chain
     by false = within_bounded p r own h.chain k
 

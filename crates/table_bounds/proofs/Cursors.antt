@@ -18,7 +18,7 @@ use Rattle.semantic_tree.specs.Unwrapped.{inner_expression}
 use Rattle.semantic_tree.specs.Views.{is, has, has_text}
 use Rattle.semantic_tree.specs.declared.node.Node.{Node}
 use Rattle.semantic_model.specs.Ambient.{ambient_inside, ambient_round}
-use Rattle.semantic_model.specs.Cursor.{read_or_type, is_write_place, is_member_or_chain, exported, equated, qualified, typed_key, at_child, cursor_before, cursor_behind, target_of_write, on_entering, on_leaving, cursor_after, way_of}
+use Rattle.semantic_model.specs.Cursor.{read_or_type, is_write_place, is_member_or_chain, way_exported, equated, qualified, typed_key, at_child, cursor_before, cursor_behind, target_of_write, on_entering, on_leaving, cursor_after, way_or_read}
 use Rattle.table_bounds.specs.Tellable.{HaveNames}
 
 abbrev pub IsWay : ℕ → Type 0
@@ -61,7 +61,7 @@ read_type = both way.Read.bits way.TypeFlag.bits read type_flag
 target_write : IsWay (union way.Read.bits way.MemberWriteTarget.bits)
 target_write = both way.Read.bits way.MemberWriteTarget.bits read (lit< tt)
 
-exported_way : (parent child : Node) → IsWay (exported parent child)
+exported_way : (parent child : Node) → IsWay (way_exported parent child)
 exported_way parent child = either (has mark.TypeOnly child || has mark.TypeOnly parent) way.TypeFlag.bits read_or_type type_flag read_type
 
 equated_way : (parent child : Node) → IsWay (equated parent child)
@@ -145,7 +145,7 @@ after_way parent around cursor (tree r k span text marks below id after) h =
     (leaving_way k (cursor_after node (ambient_round parent around r) entered below)
     (after_way node (ambient_round parent around r) entered below (entering_way k before (before_way parent (ambient_inside parent around) r node cursor h)))))
 
-pub reference_way : (cursor : ℕ) → IsWay cursor → IsWay (way_of cursor)
+pub reference_way : (cursor : ℕ) → IsWay cursor → IsWay (way_or_read cursor)
 reference_way cursor h = either (cursor == 0) way.Read.bits cursor read h
 
 pub settled_way : (w flags : ℕ) → IsWay w → IsWay (settled w flags)

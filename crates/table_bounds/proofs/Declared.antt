@@ -13,10 +13,10 @@ use Rattle.semantic_syntax.specs.Sets.{union}
 use Rattle.semantic_syntax.specs.declared.symbol_flags.TheConstants.SymbolFlags as symbol
 use Rattle.semantic_tree.specs.Views.{is, has, is_with_text, children_of}
 use Rattle.semantic_tree.specs.declared.node.Node.{Node}
-use Rattle.semantic_model.specs.Binder.{Row, declare, declare_here, ids, is_statement, is_special, ambient_if, marked_ambient, lexical_flags, function_flags, function_excluded, is_block_function, function_row, own_function_row, class_row, variable_row, variables_under, is_pure_declarator, is_var, is_conditional, parameter_excluded, parameters_under, catch_names, import_flags, enums, member_names, named_member, member_named, members, namespace_row, type_parameter_route, type_parameter_row, declared_by, declared_inside}
+use Rattle.semantic_model.specs.Binder.{BinderRow, declaration_at, declare_here, ids, is_statement, is_special, ambient_if, marked_ambient, lexical_flags, function_flags, function_excluded, is_block_function, function_row, own_function_row, class_row, variable_row, variables_under, is_pure_declarator, is_var, is_conditional, parameter_excluded, parameters_under, catch_names, import_flags, enums, member_names, named_member, member_named, member_declarations, namespace_row, type_parameter_route, type_parameter_row, declared_by, declared_inside}
 use Rattle.semantic_model.specs.Declaration.{Declaration, Route, How, plain, hoisted, moved, caught, here, passed_before, first_with, route_from, outward_to, outward_past}
 use Rattle.semantic_model.specs.Entries.{Among}
-use Rattle.semantic_model.specs.Event.{Event, declares, takes_over, ends_header, declared_at, events_of, declares_all, is_barred, staying, placed_by, taken_over, is_catch_body}
+use Rattle.semantic_model.specs.Event.{Event, declares, takes_over, ends_header, declared_at, events_of, declares_all, is_barred, staying_declaration, placed_by, taken_over, is_catch_body}
 use Rattle.semantic_model.specs.Names.{bound_names, names_at}
 use Rattle.semantic_model.specs.Namespace.{InstanceState, non_instantiated, const_enum_only, instantiated, instance_state, nodes_around}
 use Rattle.semantic_model.specs.Place.{Place, OpenScope, innermost, outside, parent_holds}
@@ -87,7 +87,7 @@ pub record IsBoundedDeclaration (d : Declaration) : Type 0 where
   pub flags : AreSymbolFlags d.naming.flags
   pub route : IsBoundedRoute d.route
 
-record IsBoundedRow (row : Row) : Type 0 where
+record IsBoundedRow (row : BinderRow) : Type 0 where
   flags : AreSymbolFlags row.flags
   route : IsBoundedRoute row.route
 
@@ -141,9 +141,9 @@ import_named : (p : Place) → AreSymbolFlags (import_flags p)
 import_named p = either (has mark.TypeOnly p.node || parent_holds (has mark.TypeOnly) p.path) symbol.TypeImport.bits symbol.Import.bits (lit< tt) (lit< tt)
 
 -- a node that is named here is bounded
-row_of : (node : Node) (row : Row) (is_pure : Bool) (xs : List Node) (d : Declaration) → IsBounded node → IsBoundedRow row → ((x : Node) → Among x xs → IsBounded x) → Among d (map (declare node row is_pure) xs) → IsBoundedDeclaration d
+row_of : (node : Node) (row : BinderRow) (is_pure : Bool) (xs : List Node) (d : Declaration) → IsBounded node → IsBoundedRow row → ((x : Node) → Among x xs → IsBounded x) → Among d (map (declaration_at node row is_pure) xs) → IsBoundedDeclaration d
 row_of node row is_pure xs d h k each a =
-    let (x, b, e) = among_map (declare node row is_pure) xs d a in
+    let (x, b, e) = among_map (declaration_at node row is_pure) xs d a in
     let name : IsBounded x = each x b in
     subst IsBoundedDeclaration e (record { node = h.id; start = name.start; end = name.end; flags = k.flags; route = k.route })
 
@@ -170,16 +170,16 @@ module _ (p : Place) (place : IsBoundedPlace p) (all : (x : Node) → Among x (n
       let (child, b, c) = among_flat bound_names (children_of r p.node.children) x a in
       child_bounded r child b x (bound_of child x c).among
 
-  abbrev row_here : ℕ → ℕ → Row
+  abbrev row_here : ℕ → ℕ → BinderRow
   row_here flags excluded = record { flags = flags; excluded = excluded; how = plain; route = here p.chain }
 
   here_row : (flags excluded : ℕ) → AreSymbolFlags flags → IsBoundedRow (row_here flags excluded)
   here_row flags excluded h = record { flags = h; route = here_bounded p.chain place.chain }
 
-  own_row : (row : Row) (is_pure : Bool) (d : Declaration) → IsBoundedRow row → Among d (map (declare p.node row is_pure) (bound_names p.node)) → IsBoundedDeclaration d
+  own_row : (row : BinderRow) (is_pure : Bool) (d : Declaration) → IsBoundedRow row → Among d (map (declaration_at p.node row is_pure) (bound_names p.node)) → IsBoundedDeclaration d
   own_row row is_pure d k a = row_of p.node row is_pure (bound_names p.node) d own k bound_names_bounded a
 
-  role_row : (r : Role) (row : Row) (is_pure : Bool) (d : Declaration) → IsBoundedRow row → Among d (map (declare p.node row is_pure) (names_at r p.node)) → IsBoundedDeclaration d
+  role_row : (r : Role) (row : BinderRow) (is_pure : Bool) (d : Declaration) → IsBoundedRow row → Among d (map (declaration_at p.node row is_pure) (names_at r p.node)) → IsBoundedDeclaration d
   role_row r row is_pure d k a = row_of p.node row is_pure (names_at r p.node) d own k (names_bounded r) a
 
   role_here : (r : Role) (flags excluded : ℕ) (d : Declaration) → AreSymbolFlags flags → Among d (declare_here p flags excluded (names_at r p.node)) → IsBoundedDeclaration d
@@ -196,7 +196,7 @@ module _ (p : Place) (place : IsBoundedPlace p) (all : (x : Node) → Among x (n
   catch_of : (pattern : Node) (d : Declaration) → Among pattern (children_of role.Pattern p.node.children) → Among d (catch_names p pattern) → IsBoundedDeclaration d
   catch_of pattern d b a = go (is kind.BindingIdentifier pattern) a
     where
-      caught_row : Row
+      caught_row : BinderRow
       caught_row = record { flags = union symbol.FunctionScopedVariable.bits symbol.CatchVariable.bits; excluded = 0; how = caught; route = here p.chain }
 
       named : IsBounded pattern
@@ -205,7 +205,7 @@ module _ (p : Place) (place : IsBoundedPlace p) (all : (x : Node) → Among x (n
       lexical : AreSymbolFlags (union symbol.BlockScopedVariable.bits symbol.CatchVariable.bits)
       lexical = both symbol.BlockScopedVariable.bits symbol.CatchVariable.bits (lit< tt) (lit< tt)
 
-      go : (t : Bool) → Among d (if t then declare p.node caught_row false pattern ∷ [] else declare_here p (union symbol.BlockScopedVariable.bits symbol.CatchVariable.bits) symbol.BlockScopedVariableExcludes.bits (bound_names pattern)) → IsBoundedDeclaration d
+      go : (t : Bool) → Among d (if t then declaration_at p.node caught_row false pattern ∷ [] else declare_here p (union symbol.BlockScopedVariable.bits symbol.CatchVariable.bits) symbol.BlockScopedVariableExcludes.bits (bound_names pattern)) → IsBoundedDeclaration d
       go true (inl q) = subst IsBoundedDeclaration q (record { node = own.id; start = named.start; end = named.end; flags = both symbol.FunctionScopedVariable.bits symbol.CatchVariable.bits (lit< tt) (lit< tt); route = here_bounded p.chain place.chain })
       go true (inr q) = absurd q
       go false q =
@@ -224,7 +224,7 @@ module _ (p : Place) (place : IsBoundedPlace p) (all : (x : Node) → Among x (n
       go true q = role_here role.Id (union symbol.ConstEnum.bits (marked_ambient p.node)) symbol.ConstEnumExcludes.bits d (with_ambient symbol.ConstEnum.bits p.node (lit< tt)) q
       go false q = role_here role.Id (union symbol.RegularEnum.bits (marked_ambient p.node)) symbol.RegularEnumExcludes.bits d (with_ambient symbol.RegularEnum.bits p.node (lit< tt)) q
 
-  member_of : (d : Declaration) → Among d (members p) → IsBoundedDeclaration d
+  member_of : (d : Declaration) → Among d (member_declarations p) → IsBoundedDeclaration d
   member_of d a =
       row_of p.node (row_here symbol.EnumMember.bits symbol.EnumMemberExcludes.bits) false (flat_map (member_named p.node) (children_of role.Id p.node.children)) d own
       (here_row symbol.EnumMember.bits symbol.EnumMemberExcludes.bits (lit< tt)) each a
@@ -238,13 +238,13 @@ module _ (p : Place) (place : IsBoundedPlace p) (all : (x : Node) → Among x (n
 
   declared_of : (k : AstType) (d : Declaration) → Among d (declared_by k p) → IsBoundedDeclaration d
   declared_of kind.VariableDeclarator d a = variables_of p.path d a
-  declared_of kind.Function d a = role_row role.Id (function_row p) (has mark.Pure p.node) d (function_bounded p place.chain) (among_if (is_statement p.node) (map (declare p.node (function_row p) (has mark.Pure p.node)) (ids p.node)) d a)
-  declared_of kind.Class d a = role_row role.Id (class_row p p.chain) false d (class_bounded p p.chain place.chain) (among_if (is_statement p.node) (map (declare p.node (class_row p p.chain) false) (ids p.node)) d a)
+  declared_of kind.Function d a = role_row role.Id (function_row p) (has mark.Pure p.node) d (function_bounded p place.chain) (among_if (is_statement p.node) (map (declaration_at p.node (function_row p) (has mark.Pure p.node)) (ids p.node)) d a)
+  declared_of kind.Class d a = role_row role.Id (class_row p p.chain) false d (class_bounded p p.chain place.chain) (among_if (is_statement p.node) (map (declaration_at p.node (class_row p p.chain) false) (ids p.node)) d a)
   declared_of kind.FormalParameter d a = parameters_of p.path d a
   declared_of kind.FormalParameterRest d a = parameters_of p.path d a
   declared_of kind.BindingRestElement d a =
-      let row : Row = row_here symbol.FunctionScopedVariable.bits (union symbol.FunctionScopedVariableExcludes.bits symbol.FunctionScopedVariable.bits) in
-      own_row row false d (here_row symbol.FunctionScopedVariable.bits (union symbol.FunctionScopedVariableExcludes.bits symbol.FunctionScopedVariable.bits) (lit< tt)) (among_if (parent_holds (is kind.FormalParameters) p.path) (map (declare p.node row false) (bound_names p.node)) d a)
+      let row : BinderRow = row_here symbol.FunctionScopedVariable.bits (union symbol.FunctionScopedVariableExcludes.bits symbol.FunctionScopedVariable.bits) in
+      own_row row false d (here_row symbol.FunctionScopedVariable.bits (union symbol.FunctionScopedVariableExcludes.bits symbol.FunctionScopedVariable.bits) (lit< tt)) (among_if (parent_holds (is kind.FormalParameters) p.path) (map (declaration_at p.node row false) (bound_names p.node)) d a)
   declared_of kind.CatchParameter d a = let (x, b, c) = among_flat (catch_names p) (children_of role.Pattern p.node.children) d a in catch_of x d b c
   declared_of kind.ImportSpecifier d a = role_here role.Local (import_flags p) symbol.ImportBindingExcludes.bits d (import_named p) a
   declared_of kind.ImportDefaultSpecifier d a = role_here role.Local (import_flags p) symbol.ImportBindingExcludes.bits d (import_named p) a
@@ -261,8 +261,8 @@ module _ (p : Place) (place : IsBoundedPlace p) (all : (x : Node) → Among x (n
   inside_of : (k : AstType) (s : OpenScope) (d : Declaration) → IsBoundedScope s → Among d (declared_inside k p s) → IsBoundedDeclaration d
   inside_of kind.Function s d h a =
       role_row role.Id (own_function_row p s) (has mark.Pure p.node) d (record { flags = function_named p.node; route = here_bounded (s ∷ []) (h, tt) })
-      (among_unless (is_statement p.node) (map (declare p.node (own_function_row p s) (has mark.Pure p.node)) (ids p.node)) d a)
-  inside_of kind.Class s d h a = role_row role.Id (class_row p (s ∷ [])) false d (class_bounded p (s ∷ []) (h, tt)) (among_unless (is_statement p.node) (map (declare p.node (class_row p (s ∷ [])) false) (ids p.node)) d a)
+      (among_unless (is_statement p.node) (map (declaration_at p.node (own_function_row p s) (has mark.Pure p.node)) (ids p.node)) d a)
+  inside_of kind.Class s d h a = role_row role.Id (class_row p (s ∷ [])) false d (class_bounded p (s ∷ []) (h, tt)) (among_unless (is_statement p.node) (map (declaration_at p.node (class_row p (s ∷ [])) false) (ids p.node)) d a)
   inside_of kind.TSMappedType s d h a = role_row role.Key (type_parameter_row (here (s ∷ []))) false d (record { flags = lit< tt; route = here_bounded (s ∷ []) (h, tt) }) a
   inside_of _ s d h a = absurd a
 
@@ -277,7 +277,7 @@ pub last_target : (passed : List OpenScope) (target : OpenScope) → IsBoundedCh
 last_target [] target h k = k
 last_target (s ∷ ss) target h k = h.0
 
-staying_bounded : (d : Declaration) → IsBoundedDeclaration d → IsBoundedDeclaration (staying d)
+staying_bounded : (d : Declaration) → IsBoundedDeclaration d → IsBoundedDeclaration (staying_declaration d)
 staying_bounded d h = record {
   node = h.node;
   start = h.start;
@@ -292,7 +292,7 @@ placed_bounded hoisted ds d h = h
 placed_bounded caught ds d h = h
 placed_bounded moved ds d h = go (is_barred ds d (outside d.route.passed))
   where
-    go : (b : Bool) → IsBoundedDeclaration (if b then staying d else d)
+    go : (b : Bool) → IsBoundedDeclaration (if b then staying_declaration d else d)
     go true = staying_bounded d h
     go false = h
 

@@ -11,7 +11,7 @@ use Rattle.semantic_syntax.specs.declared.references.Redeclaration.{Redeclaratio
 use Rattle.semantic_model.specs.Binding.{get, bound_by}
 use Rattle.semantic_model.specs.Declaration.{Declaration, How, plain, hoisted, moved, caught, stands_in}
 use Rattle.semantic_model.specs.Event.{Event, declares, takes_over, ends_header}
-use Rattle.semantic_model.specs.Fold.{State, Conflict, start, update, found, redeclared, united, in_scope, entry_of, new_symbol, make, against, conflict_with, note_symbol, declare_in, chosen}
+use Rattle.semantic_model.specs.Fold.{State, Conflict, start, update, found, redeclared, united, in_scope, redeclaration_of, new_symbol, make, against, conflict_with, note_symbol, declare_in, chosen}
 use Rattle.semantic_model.specs.Hoist.{PassedSymbol, passed_symbol, asked_symbols, against_all, move_symbol, hoist_by, move_out, declare_by, rescoped, act, run}
 use Rattle.table_bounds.specs.Tellable.{IsWrittenWhole, IsTellableEntry, AreTellableEntries, IsTellableSymbol}
 use Rattle.table_bounds.proofs.Declared.{IsBoundedDeclaration, IsBoundedEvent, both, last_target}
@@ -48,7 +48,7 @@ redeclared_bounded d y h k = record {
   end = k.end;
   flags = k.flags;
   redeclarations =
-      some_entries (unwrap_or y.redeclarations (own_entry y ∷ [])) (entry_of d.naming)
+      some_entries (unwrap_or y.redeclarations (own_entry y ∷ [])) (redeclaration_of d.naming)
       (old_entries y.redeclarations (own_entry y) k.redeclarations (record { declaration = k.node; start = k.start; end = k.end; flags = k.flags }))
       (record { declaration = h.node; start = h.start; end = h.end; flags = h.flags });
 }

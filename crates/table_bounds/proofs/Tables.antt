@@ -31,14 +31,14 @@ use Rattle.semantic_model.specs.Place.{Place, OpenScope}
 use Rattle.semantic_model.specs.Reference.{Occurrence, reference_at, entered_reference, references}
 use Rattle.semantic_model.specs.Step.{Step, entering, opening, header_ending, closing, leaving, steps}
 use Rattle.semantic_model.specs.TablesOf.{evals, any_holds, opened_entry, scopes, entry_of, any_pure, tables_of}
-use Rattle.semantic_model.specs.Tie.{Tie, answers, ties, symbol_of, final_flags}
+use Rattle.semantic_model.specs.Tie.{Tie, answers, ties, tied_symbol, final_flags}
 use Rattle.semantic_model.proofs.bindings.Owned.{bindings_owned}
 use Rattle.semantic_model.proofs.fits.TablesFit.{tables_fit}
 use Rattle.semantic_model.proofs.form.Shape.{has_form}
 use Rattle.semantic_model.proofs.lists.Members.{among_left, among_right}
 use Rattle.semantic_model.proofs.once.StandOnce.{ties_below}
 use Rattle.semantic_model.proofs.once.UseLists.{IsBelow}
-use Rattle.walk_model.specs.Counted.{is_symbol, is_reference}
+use Rattle.walk_model.specs.Counted.{declares_symbol, is_reference}
 use Rattle.walk_model.proofs.sizes.ProgramRoom.{passes_few}
 use Rattle.walk_model.proofs.sizes.References.{references_counted}
 use Rattle.walk_model.proofs.sizes.Scopes.{scopes_counted}
@@ -154,14 +154,14 @@ symbol_small n None few h = tt
 symbol_small n (Some s) few h = omega (arith, few, h)
 
 module _ (st : State) (es : List Event) (symbols : ℕ) (few : symbols ≤ 2 ^ 64) where
-  references_small : (n : ℕ) (rs : List Occurrence) → AllByRecursion IsBoundedOccurrence rs → ((t : Tie) → Among t (ties st es n rs) → IsBelow symbols (symbol_of t)) → AllByRecursion IsTellableReference (map entry_of (ties st es n rs))
+  references_small : (n : ℕ) (rs : List Occurrence) → AllByRecursion IsBoundedOccurrence rs → ((t : Tie) → Among t (ties st es n rs) → IsBelow symbols (tied_symbol t)) → AllByRecursion IsTellableReference (map entry_of (ties st es n rs))
   references_small n [] h below = tt
   references_small n (r ∷ rs) h below = (
     record {
       node = h.0.node;
       scope = (innermost_bounded r.chain h.0.chain).number;
       flags = final_way n r (lookup r.name r.way (answers st es r)) h.0.way;
-      symbol = symbol_small symbols (symbol_of (record { number = n; reference = r; lookup = lookup r.name r.way (answers st es r) })) few (below (record { number = n; reference = r; lookup = lookup r.name r.way (answers st es r) }) (inl refl));
+      symbol = symbol_small symbols (tied_symbol (record { number = n; reference = r; lookup = lookup r.name r.way (answers st es r) })) few (below (record { number = n; reference = r; lookup = lookup r.name r.way (answers st es r) }) (inl refl));
     },
     references_small (suc n) rs h.1 (λ t a. below t (inr a)),
   )
@@ -200,7 +200,7 @@ module _ (p : Tree) (faultless : first_fault p ≡ None) (numbered : IsNumbered 
   occurrences = all_found IsBoundedOccurrence entered_reference (steps p) (λ s a. occurrence_bounded s (step_bounded s a) (node_bounded s a))
 
   few_symbols : length (tables_of p).symbols ≤ 4294967294
-  few_symbols = omega (arith, symbols_counted p faultless numbered, passes_few is_symbol (single role.Root p.root), few_nodes)
+  few_symbols = omega (arith, symbols_counted p faultless numbered, passes_few declares_symbol (single role.Root p.root), few_nodes)
 
   few_references : length (tables_of p).references ≤ 4294967294
   few_references = omega (arith, references_counted p, passes_few is_reference (single role.Root p.root), few_nodes)

@@ -5,9 +5,9 @@ use Rattle.std.proofs.lemmas.List.{map-append}
 use Rattle.std.specs.Map.{values_of}
 use Rattle.semantic_syntax.specs.Tables.{Tables, Name}
 use Rattle.semantic_syntax.specs.Reading.{bindings_of}
-use Rattle.semantic_syntax.specs.Writing.{taken_over}
+use Rattle.semantic_syntax.specs.Writing.{bindings_taken_over}
 use Rattle.walk_model.proofs.sizes.Growth.{homes_count}
-use Rattle.semantic_model.specs.Binding.{Binding, is_of, get, put}
+use Rattle.semantic_model.specs.Binding.{Binding, is_binding_of, get, put}
 use Rattle.semantic_syntax.specs.Outcome.{Pending}
 use Rattle.table_building.specs.Growth.{Grows, Goes}
 use Rattle.walk_model.specs.WalkState.{WalkState}
@@ -39,7 +39,7 @@ module _ (n s : ℕ) (x : Name) where
   -- what is got is one of the symbols
   pub symbols_get : (bs : List Binding) → AreSymbols n bs → IfSome (get bs s x) (λ y. y < n)
   symbols_get [] below = tt
-  symbols_get (b ∷ bs) below = by (is_of s x b) (symbols_get bs below.1)
+  symbols_get (b ∷ bs) below = by (is_binding_of s x b) (symbols_get bs below.1)
     where
       by : (t : Bool) → IfSome (get bs s x) (λ y. y < n) → IfSome (cond t (Some b.symbol) (get bs s x)) (λ y. y < n)
       by true later = below.0
@@ -47,7 +47,7 @@ module _ (n s : ℕ) (x : Name) where
 
   pub symbols_put : (y : ℕ) (bs : List Binding) → y < n → AreSymbols n bs → AreSymbols n (put bs s x y)
   symbols_put y [] within below = (within, tt)
-  symbols_put y (b ∷ bs) within below = by (is_of s x b) (symbols_put y bs within below.1)
+  symbols_put y (b ∷ bs) within below = by (is_binding_of s x b) (symbols_put y bs within below.1)
     where
       by : (t : Bool) → AreSymbols n (put bs s x y) → AreSymbols n (cond t (record b { symbol = y } ∷ bs) (b ∷ put bs s x y))
       by true later = (within, below.1)
@@ -64,7 +64,7 @@ pub waiting_more : (t : Tables) (es : List Pending) (e : Pending) → AreWaiting
 waiting_more t [] e h below exists = (record { scope = below; reference = exists }, tt)
 waiting_more t (d ∷ es) e h below exists = (h.0, waiting_more t es e h.1 below exists)
 
-pub taken_grows : (t : Tables) (from to : ℕ) → Grows t (taken_over t from to)
+pub taken_grows : (t : Tables) (from to : ℕ) → Grows t (bindings_taken_over t from to)
 taken_grows t from to = record { scopes = omega arith; symbols = omega (arith, homes_count to (values_of (bindings_of t from)) t.symbols); references = omega arith }
 
 pub All-push : (n : ℕ) (ys : List ℕ) (y : ℕ) → All (λ z. z < n) ys → y < n → All (λ z. z < n) (ys ++ y ∷ [])

@@ -10,7 +10,7 @@ use Rattle.semantic_syntax.specs.Tables.{Name}
 use Rattle.semantic_syntax.proofs.Truth.{same_turned}
 use Rattle.scoping_rows.specs.Flat.{key_eq}
 use Rattle.scoping_rows.specs.Names.{name_at, IsUnknown, IsNumberOf, IsInterned}
-use Rattle.semantic_model.specs.Binding.{is_of, get, put}
+use Rattle.semantic_model.specs.Binding.{is_binding_of, get, put}
 use Rattle.table_building.specs.Numbered.{binding_of, bindings_named, AreNumbered}
 
 pub bytes_eq_flip : (a b : Name) → bytes_eq a b ≡ bytes_eq b a
@@ -46,7 +46,7 @@ module _ (names : List Name) (x : Name) (s : ℕ) where
       by false rest = rest
 
   module _ (n : ℕ) (number : IsNumberOf names x n) where
-    same_key : (e : (ℕ × ℕ) × ℕ) → e.0.1 < length names → is_of s x (binding_of names e) ≡ key_eq (s, n) e.0
+    same_key : (e : (ℕ × ℕ) × ℕ) → e.0.1 < length names → is_binding_of s x (binding_of names e) ≡ key_eq (s, n) e.0
     same_key e h = rw (bytes_eq_flip (name_at names e.0.1) x, number.only e.0.1 h, same_turned e.0.0 s) refl
 
     pub get_numbered : (es : List ((ℕ × ℕ) × ℕ)) → AreNumbered (length names) es → get (bindings_named names es) s x ≡ lookup (key_eq (s, n)) es
@@ -57,7 +57,7 @@ module _ (names : List Name) (x : Name) (s : ℕ) where
     put_numbered y [] h = rw number.named refl
     put_numbered y (e ∷ es) h = by (key_eq (s, n) e.0) (same_key e h.0) (put_numbered y es h.1)
       where
-        by : (b : Bool) → is_of s x (binding_of names e) ≡ b → bindings_named names (insert_entry key_eq es (s, n) y) ≡ put (bindings_named names es) s x y
+        by : (b : Bool) → is_binding_of s x (binding_of names e) ≡ b → bindings_named names (insert_entry key_eq es (s, n) y) ≡ put (bindings_named names es) s x y
             → bindings_named names (if b then (e.0, y) ∷ es else e ∷ insert_entry key_eq es (s, n) y) ≡ put (bindings_named names (e ∷ es)) s x y
         by true same rest = rw same refl
         by false same rest = rw (same, rest) refl

@@ -7,7 +7,7 @@ use Rattle.semantic_syntax.specs.Reading.{scope_of, parent_of, chain}
 use Rattle.semantic_model.specs.Place.{OpenScope, innermost}
 use Rattle.semantic_model.specs.Declaration.{passed_before, first_with, route_from}
 use Rattle.semantic_model.specs.TablesOf.{numbers}
-use Rattle.table_building.specs.Routes.{open_of, open_from, way_from, IsWay}
+use Rattle.table_building.specs.Routes.{open_of, open_from, way_from, IsRouteOf}
 use Rattle.table_building.specs.declared.route.Route.{Route}
 
 -- the scopes that are left of a way: as many as so, from one outward
@@ -27,12 +27,12 @@ goes_on-begin t from bits = record { passes = refl; finds = refl }
 
 module _ (t : Tables) (from bits n s : ℕ) (passed : List ℕ) where
   ends_here : (o : Option OpenScope) (chain : List OpenScope) (before : List OpenScope) (route : Route) → o ≡ Some (open_of t s) → route.passed.items ≡ numbers before → route.target ≡ s
-      → IsWay (route_from chain before o) route
+      → IsRouteOf (route_from chain before o) route
   ends_here o chain before route e p h = rw e (record { passes = p; ends = h })
 
   -- it ends at a scope with one of the flags
   pub goes_on-hit : GoesOn t from bits (suc n) s passed → has bits (open_of t s) ≡ true → (route : Route) → route.passed.items ≡ passed → route.target ≡ s
-      → IsWay (way_from t from bits) route
+      → IsRouteOf (way_from t from bits) route
   unfolding chain_within
   goes_on-hit way is route p h =
       let none : numbers (passed_before (has bits) (left_from t (suc n) s)) ≡ [] = rw is refl in
@@ -76,7 +76,7 @@ innermost_from t from n = refl
 
 -- where nothing is found, the way ends at once
 pub way_none : (t : Tables) (from bits : ℕ) → from < length t.scopes → first_with (has bits) (open_from t from) ≡ None
-    → (route : Route) → route.passed.items ≡ [] → route.target ≡ from → IsWay (way_from t from bits) route
+    → (route : Route) → route.passed.items ≡ [] → route.target ≡ from → IsRouteOf (way_from t from bits) route
 way_none t from bits within none route p h =
     let there : length t.scopes ≡ suc (length t.scopes - 1) = omega (arith, within) in
     let inner : (innermost (open_from t from)).number ≡ from = ap (λ n. (innermost (left_from t n from)).number) there ∙ innermost_from t from (length t.scopes - 1) in

@@ -9,5 +9,5 @@ abbrev pub conflict_of : Conflict → NotedConflict
 conflict_of c = record { name = chars c.name.now; earlier = c.earlier; later = c.later }
 
 -- the diagnostic of a conflict
-abbrev pub told : NotedConflict → Diagnostic
-told c = redeclaration c.name c.earlier c.later
+abbrev pub noted_conflict_diagnostic : NotedConflict → Diagnostic
+noted_conflict_diagnostic c = redeclaration c.name c.earlier c.later

@@ -20,5 +20,5 @@ AreNumbered count es = AllByRecursion (λ e. e.0.1 < count) es
 abbrev pub remembered : Inside → List Binding
 remembered r = bindings_named r.names r.symbols.entries
 
-abbrev pub IsNumbered : Inside → Type 0
-IsNumbered r = AreNumbered (length r.names) r.symbols.entries
+abbrev pub IsNumberedTable : Inside → Type 0
+IsNumberedTable r = AreNumbered (length r.names) r.symbols.entries

@@ -19,7 +19,7 @@ abbrev pub way_from : Tables → (from bits : ℕ) → Way
 way_from t from bits = outward_to (λ s. meets s.flags bits) (open_from t from)
 
 -- the route is the way
-pub record IsWay (way : Way) (route : Route) : Type 0 where
+pub record IsRouteOf (way : Way) (route : Route) : Type 0 where
   pub passes : route.passed.items ≡ map (λ s. s.number) way.passed
   pub ends : route.target ≡ way.target.number
 

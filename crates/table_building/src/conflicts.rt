@@ -3,7 +3,7 @@
 
 ghost use Rattle.std.specs.Prelude.{◌≡◌, [], ◌∷◌, ◌++◌, length, map, drop, OnOk, OnErr};
 ghost use Rattle.std.specs.Str.{chars};
-ghost use Rattle.table_building.specs.Conflicting.{told};
+ghost use Rattle.table_building.specs.Conflicting.{noted_conflict_diagnostic};
 
 use semantic_diagnostics::Diagnostics;
 use semantic_diagnostics::makers::names::redeclaration;
@@ -77,7 +77,8 @@ impl<'a> Conflicts<'a> {
         from: usize,
         out: &mut Diagnostics,
     ) -> Result<(), AllocError>
-        ensures { OnOk result (out.new ≡ out.old ++ map told (drop from self.now)) }
+        ensures { OnOk result (out.new
+            ≡ out.old ++ map noted_conflict_diagnostic (drop from self.now)) }
     {
         let entries = self.entries.as_slice();
         let mut next = from;

@@ -10,7 +10,7 @@ ghost use Rattle.semantic_model.specs.Fold.{or_else};
 ghost use Rattle.walk_model.specs.Opens.{open_in};
 ghost use Rattle.walk_model.specs.WalkState.{nothing_made};
 ghost use Rattle.walk_model.specs.Declares as walked;
-ghost use Rattle.table_building.specs.Conflicting.{told};
+ghost use Rattle.table_building.specs.Conflicting.{noted_conflict_diagnostic};
 ghost use Rattle.table_building.specs.Growth.{Goes};
 ghost use Rattle.table_building.specs.Named.{naming, named_by};
 
@@ -123,7 +123,8 @@ impl<'a> Declared<'a> {
 
     /// Adds a diagnostic for each conflict from a position on, at the end of the list.
     pub fn tell_from(&self, from: usize, out: &mut Diagnostics) -> Result<(), AllocError>
-        ensures { OnOk result (out.new ≡ out.old ++ map told (drop from self.now.conflicts)) }
+        ensures { OnOk result (out.new
+            ≡ out.old ++ map noted_conflict_diagnostic (drop from self.now.conflicts)) }
     {
         self.conflicts.tell_from(self.alloc, from, out)
     }

@@ -25,11 +25,11 @@ impl Model for HoistingVariables {
 
     ghost Value = { List Binding };
 
-    ghost use Rattle.table_building.specs.Numbered.{remembered, IsNumbered};
+    ghost use Rattle.table_building.specs.Numbered.{remembered, IsNumberedTable};
 
     ghost view = { remembered };
 
-    ghost invariant = { IsNumbered };
+    ghost invariant = { IsNumberedTable };
 }
 
 impl HoistingVariables {

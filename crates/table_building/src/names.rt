@@ -4,7 +4,7 @@ ghost use Rattle.std.specs.Prelude.{◌≡◌, ◌==◌, ◌<◌, ◌≤◌, ◌
 ghost use Rattle.semantic_kinds.specs.declared.kind.AstType.TheVariants.{TemplateElement as template_element};
 ghost use Rattle.semantic_kinds.specs.declared.role.Role.TheVariants.{Pattern as pattern_role, Id as id_role, Quasis as quasis_role};
 ghost use Rattle.semantic_syntax.specs.Reading.{bindings_of};
-ghost use Rattle.semantic_syntax.specs.Writing.{taken_over};
+ghost use Rattle.semantic_syntax.specs.Writing.{bindings_taken_over};
 ghost use Rattle.semantic_tree.specs.Views.{all_in, is};
 ghost use Rattle.semantic_model.specs.Names.{bound_names, names_at};
 ghost use Rattle.semantic_model.specs.Binder.{member_names};
@@ -227,7 +227,8 @@ impl<'a> Declared<'a> {
         requires apart { (clause == body) ≡ false }
         requires empty { bindings_of self.old.tables body ≡ [] }
         ensures made { OnOk result
-            (self.new ≡ record self.old { tables = taken_over self.old.tables clause body }) }
+            (self.new
+            ≡ record self.old { tables = bindings_taken_over self.old.tables clause body }) }
         ensures goes { Goes self.old self.new }
     {
         self.scoping.take_over_bindings(clause, body)?;

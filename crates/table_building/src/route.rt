@@ -3,7 +3,7 @@
 
 ghost use Rattle.std.specs.Prelude.{◌≡◌, ◌<◌, length, IfOk, IfSome};
 ghost use Rattle.semantic_syntax.specs.Reading.{scope_of};
-ghost use Rattle.table_building.specs.Routes.{IsRoute, IsWay, way_from};
+ghost use Rattle.table_building.specs.Routes.{IsRoute, IsRouteOf, way_from};
 
 use scoping::Scoping;
 use semantic_syntax::{ScopeFlags, ScopeId};
@@ -73,7 +73,8 @@ impl Route {
         flags: ScopeFlags,
     ) -> Result<Route, AllocError>
         requires { from < length scoping.now.scopes }
-        ensures way { IfOk result (λ route. IsWay (way_from scoping.now from flags.bits) route) }
+        ensures way { IfOk result
+            (λ route. IsRouteOf (way_from scoping.now from flags.bits) route) }
         ensures within { IfOk result (λ route. IsRoute (length scoping.now.scopes) route) }
     {
         let mut passed = SmallVec::new(alloc);

@@ -19,21 +19,21 @@ pub record Key : Type 0 where
 abbrev pub same_key : Key → Key → Bool
 same_key k l = bytes_eq k.name l.name && k.home == l.home
 
-abbrev pub is_of : What → Mention → Bool
-is_of w m = same_what m.what w
+abbrev pub is_mention_of : What → Mention → Bool
+is_mention_of w m = same_what m.what w
 
 -- blocks of one name are alike wherever they stand
 abbrev pub key_of : Mention → Key
-key_of m = record { name = m.name; home = cond (is_of what.Block m) 0 m.home }
+key_of m = record { name = m.name; home = cond (is_mention_of what.Block m) 0 m.home }
 
 -- the keys of what is noted as that
 abbrev pub keys_of : What → List Mention → List Key
-keys_of w ms = map key_of (filter (is_of w) ms)
+keys_of w ms = map key_of (filter (is_mention_of w) ms)
 
-abbrev pub stands : Key → List Key → Bool
-stands k ls = list_any (same_key k) ls
+abbrev pub key_stands : Key → List Key → Bool
+key_stands k ls = list_any (same_key k) ls
 
 -- it stands there more than once
 abbrev pub repeats : Key → List Key → Bool
 repeats k [] = false
-repeats k (l ∷ ls) = cond (same_key k l) (stands k ls) (repeats k ls)
+repeats k (l ∷ ls) = cond (same_key k l) (key_stands k ls) (repeats k ls)

@@ -14,7 +14,7 @@ use Rattle.semantic_syntax.specs.declared.symbol_flags.TheConstants.SymbolFlags 
 use Rattle.semantic_tree.specs.Tree.{Tree}
 use Rattle.semantic_model.specs.TablesOf.{tables_of}
 use Rattle.tangle_model.specs.Mention.{Mention, mentions}
-use Rattle.tangle_model.specs.Repeated.{is_of, key_of, keys_of, stands, repeats}
+use Rattle.tangle_model.specs.Repeated.{is_mention_of, key_of, keys_of, key_stands, repeats}
 use Rattle.tangle_model.specs.declared.reason.Reason.{Reason}
 use Rattle.tangle_model.specs.declared.reason.Reason.TheVariants as reason
 use Rattle.tangle_model.specs.declared.what.What.TheVariants as what
@@ -23,19 +23,19 @@ use Rattle.tangle_model.specs.declared.what.What.TheVariants as what
 
 -- a block function whose home has another declaration of the name: its `var`, its variable in the block and the other may be two variables in the language and one in the tables, or the other way round (ECMA-262, B.3.2, B.3.3, 10.2.11 steps 28 and 29, 16.1.7, 14.2.3)
 abbrev pub meets_declaration : List Mention → Mention → Bool
-meets_declaration ms m = is_of what.BlockFunction m && repeats (key_of m) (keys_of what.Declaration ms)
+meets_declaration ms m = is_mention_of what.BlockFunction m && repeats (key_of m) (keys_of what.Declaration ms)
 
 -- a `var` in a catch clause whose home has a catch parameter of the name: they are two variables, and one in the tables (B.3.4, 14.15.2)
 abbrev pub meets_catch_name : List Mention → Mention → Bool
-meets_catch_name ms m = is_of what.VarInCatch m && stands (key_of m) (keys_of what.CatchName ms)
+meets_catch_name ms m = is_mention_of what.VarInCatch m && key_stands (key_of m) (keys_of what.CatchName ms)
 
 -- a `var` or a reference in a `with`, where an object may have the name (14.11.2, 9.1.1.2)
 abbrev pub is_in_with : Mention → Bool
-is_in_with m = is_of what.InWith m
+is_in_with m = is_mention_of what.InWith m
 
 -- a namespace, enum, module or `global` block of the program that another has the name of
 abbrev pub is_merged : List Mention → Mention → Bool
-is_merged ms m = is_of what.Block m && repeats (key_of m) (keys_of what.Block ms)
+is_merged ms m = is_mention_of what.Block m && repeats (key_of m) (keys_of what.Block ms)
 
 -- the nodes that open their scopes
 abbrev pub merged_openers : List Mention → List ℕ

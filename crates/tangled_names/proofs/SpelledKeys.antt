@@ -5,7 +5,7 @@ use Rattle.std.specs.Str.{bytes_eq, IsUtf8}
 use Rattle.std.proofs.lemmas.List.{map-append}
 use Rattle.indexmap.specs.IndexSet.{insert_key}
 use Rattle.semantic_syntax.proofs.SameTexts.{same_texts}
-use Rattle.tangle_model.specs.Repeated.{same_key, stands}
+use Rattle.tangle_model.specs.Repeated.{same_key, key_stands}
 use Rattle.tangled_names.specs.Stored.{Stored, key_seen, IsSpelled, with_key}
 
 abbrev pub stored_eq : Stored → Stored → Bool
@@ -14,10 +14,10 @@ stored_eq k l = bytes_eq k.0.now l.0.now && k.1 == l.1
 same_keys : (k l : Stored) → IsUtf8 k.0.now → IsUtf8 l.0.now → same_key (key_seen k) (key_seen l) ≡ stored_eq k l
 same_keys k l u v = ap (λ b. b && k.1 == l.1) (same_texts k.0.now l.0.now u v)
 
-pub stands_seen : (q : Stored) → IsUtf8 q.0.now → (ks : List Stored) → AllByRecursion IsSpelled ks → stands (key_seen q) (map key_seen ks) ≡ list_any (stored_eq q) ks
+pub stands_seen : (q : Stored) → IsUtf8 q.0.now → (ks : List Stored) → AllByRecursion IsSpelled ks → key_stands (key_seen q) (map key_seen ks) ≡ list_any (stored_eq q) ks
 stands_seen q u [] h = refl
 stands_seen q u (k ∷ ks) h =
-    ap (λ b. b || stands (key_seen q) (map key_seen ks)) (same_keys q k u h.0)
+    ap (λ b. b || key_stands (key_seen q) (map key_seen ks)) (same_keys q k u h.0)
     ∙ ap (λ b. stored_eq q k || b) (stands_seen q u ks h.1)
 
 pub insert_seen : (q : Stored) → IsUtf8 q.0.now → (ks : List Stored) → AllByRecursion IsSpelled ks → map key_seen (insert_key stored_eq ks q) ≡ with_key (map key_seen ks) (key_seen q)

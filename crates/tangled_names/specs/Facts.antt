@@ -13,16 +13,16 @@ use Rattle.tangled_names.specs.Stored.{has_name}
 use Rattle.tangled_names.specs.declared.facts.NameFacts.{NameFacts}
 
 -- what the sets tell of a name, in a source of the type with these tables
-abbrev pub told : NameFacts → SourceType → Tables → Reason → Name → Bool
-told f s t reason.BlockFunction name = has_name f.block_functions name
-told f s t reason.CatchVariable name = has_name f.catch_variables name
-told f s t reason.Arguments name = bytes_eq name (codes "arguments")
-told f s t reason.With name = has_name f.in_with name
-told f s t reason.Eval name = has_name f.seen_by_eval name
-told f s t reason.FreeNamesake name = is_typescript s && is_some (lookup (bytes_eq name) t.free)
-told f s t reason.MergedMember name = has_name f.merged name
-told f s t reason.NamespaceNamesake name = is_typescript s && has_name f.passed name && has_name f.shared name
+abbrev pub facts_tell : NameFacts → SourceType → Tables → Reason → Name → Bool
+facts_tell f s t reason.BlockFunction name = has_name f.block_functions name
+facts_tell f s t reason.CatchVariable name = has_name f.catch_variables name
+facts_tell f s t reason.Arguments name = bytes_eq name (codes "arguments")
+facts_tell f s t reason.With name = has_name f.in_with name
+facts_tell f s t reason.Eval name = has_name f.seen_by_eval name
+facts_tell f s t reason.FreeNamesake name = is_typescript s && is_some (lookup (bytes_eq name) t.free)
+facts_tell f s t reason.MergedMember name = has_name f.merged name
+facts_tell f s t reason.NamespaceNamesake name = is_typescript s && has_name f.passed name && has_name f.shared name
 
 -- they tell what holds
-abbrev pub Tells : NameFacts → SourceType → List Mention → Tables → Type 0
-Tells f s ms t = (r : Reason) (name : Name) → told f s t r name ≡ holds_in s ms t r name
+abbrev pub FactsHold : NameFacts → SourceType → List Mention → Tables → Type 0
+FactsHold f s ms t = (r : Reason) (name : Name) → facts_tell f s t r name ≡ holds_in s ms t r name

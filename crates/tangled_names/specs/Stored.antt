@@ -4,7 +4,7 @@ use Rattle.std.specs.Borrow.{Bor}
 use Rattle.std.specs.Str.{chars, IsUtf8}
 use Rattle.semantic_syntax.specs.Tables.{Name}
 use Rattle.tangle_model.specs.Mention.{Mention}
-use Rattle.tangle_model.specs.Repeated.{Key, is_of, key_of, stands}
+use Rattle.tangle_model.specs.Repeated.{Key, is_mention_of, key_of, key_stands}
 use Rattle.tangle_model.specs.declared.what.What.TheVariants as what
 
 -- a key as it is stored
@@ -21,7 +21,7 @@ IsSpelled k = IsUtf8 k.0.now
 
 -- a key more: it is there, or goes last
 abbrev pub with_key : List Key → Key → List Key
-with_key ks k = cond (stands k ks) ks (ks ++ k ∷ [])
+with_key ks k = cond (key_stands k ks) ks (ks ++ k ∷ [])
 
 abbrev pub with_key_if : Bool → List Key → Key → List Key
 with_key_if b ks k = cond b (with_key ks k) ks
@@ -31,7 +31,7 @@ abbrev pub name_key : Name → Key
 name_key name = record { name = name; home = 0 }
 
 abbrev pub has_name : List Key → Name → Bool
-has_name ks name = stands (name_key name) ks
+has_name ks name = key_stands (name_key name) ks
 
 -- a node without a name
 abbrev pub node_key : ℕ → Key
@@ -39,4 +39,4 @@ node_key n = record { name = []; home = n }
 
 -- the nodes that open blocks whose names are among the keys
 abbrev pub openers_by : List Key → List Mention → List ℕ
-openers_by ks ms = map (λ m. m.home) (filter (λ m. is_of what.Block m && stands (key_of m) ks) ms)
+openers_by ks ms = map (λ m. m.home) (filter (λ m. is_mention_of what.Block m && key_stands (key_of m) ks) ms)

@@ -3,7 +3,7 @@ ghost use Rattle.std.specs.Prelude.{◌≡◌, ◌&&◌, ℕ, map, IfOk};
 ghost use Rattle.semantic_syntax.specs.Members.{contains};
 ghost use Rattle.semantic_syntax.specs.Reading.{scope_of};
 ghost use Rattle.semantic_syntax.specs.Tables.{Name, Symbol};
-ghost use Rattle.tangle_model.specs.Repeated.{is_of, key_of, stands};
+ghost use Rattle.tangle_model.specs.Repeated.{is_mention_of, key_of, key_stands};
 ghost use Rattle.tangle_model.specs.Tangled.{any_mention, any_symbol, is_seen_by_eval, is_merged_member, may_be_passed, is_shared, is_in_with, meets_declaration, meets_catch_name};
 ghost use Rattle.tangled_names.specs.Gathered.{noted_of};
 ghost use Rattle.tangled_names.specs.Stored.{has_name, node_key, openers_by};
@@ -31,8 +31,8 @@ pub struct NameFacts<'a> {
 
 /// Whether that is what is noted, and its name is among the keys at its home.
 fn is_among(mention: &Mention<'_>, what: What, keys: &KeySet<'_>) -> bool
-    ensures { result ≡ (is_of what (noted_of mention.now)
-        && stands (key_of (noted_of mention.now)) keys.now) }
+    ensures { result ≡ (is_mention_of what (noted_of mention.now)
+        && key_stands (key_of (noted_of mention.now)) keys.now) }
 {
     is_of(mention, what) && keys.has_key(mention)
 }
@@ -45,7 +45,8 @@ fn names_among<'a>(
     keys: &KeySet<'_>,
 ) -> Result<KeySet<'a>, AllocError>
     ensures { IfOk result (λ names. (name : Name)
-        → has_name names name ≡ any_mention (λ m. is_of what m && stands (key_of m) keys.now)
+        → has_name names name ≡ any_mention
+        (λ m. is_mention_of what m && key_stands (key_of m) keys.now)
         (map noted_of mentions.now) name) }
 {
     let mut names = KeySet::new(alloc);
@@ -63,7 +64,7 @@ fn noted_names<'a>(
     what: What,
 ) -> Result<KeySet<'a>, AllocError>
     ensures { IfOk result (λ names. (name : Name)
-        → has_name names name ≡ any_mention (is_of what) (map noted_of mentions.now) name) }
+        → has_name names name ≡ any_mention (is_mention_of what) (map noted_of mentions.now) name) }
 {
     let mut names = KeySet::new(alloc);
     for mention in mentions {
@@ -80,7 +81,7 @@ fn openers_among<'a>(
     keys: &KeySet<'_>,
 ) -> Result<KeySet<'a>, AllocError>
     ensures { IfOk result (λ openers. (n : ℕ)
-        → stands (node_key n) openers
+        → key_stands (node_key n) openers
         ≡ contains (openers_by keys.now (map noted_of mentions.now)) n) }
 {
     let mut openers = KeySet::new(alloc);
@@ -129,7 +130,7 @@ fn member_names<'a>(
 ) -> Result<KeySet<'a>, AllocError>
     ensures { IfOk result (λ names. (name : Name)
         → has_name names name ≡ any_symbol
-        (λ (y : Symbol). stands (node_key (scope_of scoping.now y.scope).node) openers.now)
+        (λ (y : Symbol). key_stands (node_key (scope_of scoping.now y.scope).node) openers.now)
         scoping.now.symbols name) }
 {
     let mut names = KeySet::new(alloc);

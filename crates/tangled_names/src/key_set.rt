@@ -1,7 +1,7 @@
 //! A set of names at homes.
 ghost use Rattle.std.specs.Prelude.{◌≡◌, [], OnOk};
 ghost use Rattle.std.specs.Str.{chars, IsUtf8};
-ghost use Rattle.tangle_model.specs.Repeated.{key_of, stands};
+ghost use Rattle.tangle_model.specs.Repeated.{key_of, key_stands};
 ghost use Rattle.tangled_names.specs.Gathered.{noted_of};
 ghost use Rattle.tangled_names.specs.Stored.{with_key, with_key_if, name_key, has_name, node_key};
 
@@ -55,7 +55,8 @@ impl<'a> KeySet<'a> {
 
     /// Whether the name at the home is among them.
     fn has(&self, name: &str, home: usize) -> bool
-        ensures { result ≡ stands (record { name = chars name.entry.now; home = home }) self.now }
+        ensures { result ≡ key_stands
+            (record { name = chars name.entry.now; home = home }) self.now }
     {
         spell(name);
         self.stored.contains(&(name, home))
@@ -90,7 +91,7 @@ impl<'a> KeySet<'a> {
 
     /// Whether what is noted has a name that is among them, at its home.
     pub fn has_key(&self, mention: &Mention<'_>) -> bool
-        ensures { result ≡ stands (key_of (noted_of mention.now)) self.now }
+        ensures { result ≡ key_stands (key_of (noted_of mention.now)) self.now }
     {
         self.has(mention.name.as_str(), key_home(mention))
     }
@@ -117,7 +118,7 @@ impl<'a> KeySet<'a> {
 
     /// Whether the node is among them.
     pub fn has_node(&self, node: NodeId) -> bool
-        ensures { result ≡ stands (node_key node) self.now }
+        ensures { result ≡ key_stands (node_key node) self.now }
     {
         self.has(no_name(), node.index())
     }

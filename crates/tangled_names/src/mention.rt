@@ -1,6 +1,6 @@
 //! What is noted of a name.
 ghost use Rattle.std.specs.Prelude.{◌≡◌};
-ghost use Rattle.tangle_model.specs.Repeated.{is_of, key_of};
+ghost use Rattle.tangle_model.specs.Repeated.{is_mention_of, key_of};
 ghost use Rattle.tangled_names.specs.Gathered.{noted_of};
 
 use semantic_syntax::Ident;
@@ -16,7 +16,7 @@ pub struct Mention<'a> {
 
 /// Whether that is what is noted.
 pub fn is_of(mention: &Mention<'_>, what: What) -> bool
-    ensures { result ≡ is_of what (noted_of mention.now) }
+    ensures { result ≡ is_mention_of what (noted_of mention.now) }
 {
     mention.what == what
 }

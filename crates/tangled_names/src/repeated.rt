@@ -2,7 +2,7 @@
 ghost use Rattle.std.specs.Prelude.{◌≡◌, ◌&&◌, [], true, map, IfOk, OnOk};
 ghost use Rattle.std.specs.Str.{chars};
 ghost use Rattle.semantic_syntax.specs.Tables.{Name};
-ghost use Rattle.tangle_model.specs.Repeated.{Key, key_of, keys_of, stands, repeats};
+ghost use Rattle.tangle_model.specs.Repeated.{Key, key_of, keys_of, key_stands, repeats};
 ghost use Rattle.tangle_model.specs.Tangled.{is_shared};
 ghost use Rattle.tangled_names.specs.Gathered.{noted_of};
 ghost use Rattle.tangled_names.specs.Stored.{with_key_if, name_key, has_name};
@@ -21,7 +21,7 @@ pub fn noted_keys<'a>(
     what: What,
 ) -> Result<KeySet<'a>, AllocError>
     ensures { IfOk result (λ keys. (k : Key)
-        → stands k keys ≡ stands k (keys_of what (map noted_of mentions.now))) }
+        → key_stands k keys ≡ key_stands k (keys_of what (map noted_of mentions.now))) }
 {
     let mut keys = KeySet::new(alloc);
     for mention in mentions {
@@ -43,7 +43,7 @@ fn meet<'a>(met: &mut Met<'a>, is: bool, mention: &Mention<'a>) -> Result<(), Al
     ensures seen { OnOk result (met.new.seen
         ≡ with_key_if is met.old.seen (key_of (noted_of mention.now))) }
     ensures again { OnOk result (met.new.again
-        ≡ with_key_if (is && stands (key_of (noted_of mention.now)) met.old.seen) met.old.again
+        ≡ with_key_if (is && key_stands (key_of (noted_of mention.now)) met.old.seen) met.old.again
         (key_of (noted_of mention.now))) }
 {
     let is_again = is && met.seen.has_key(mention);
@@ -58,7 +58,7 @@ pub fn repeated_keys<'a>(
     what: What,
 ) -> Result<KeySet<'a>, AllocError>
     ensures { IfOk result (λ keys. (k : Key)
-        → stands k keys ≡ repeats k (keys_of what (map noted_of mentions.now))) }
+        → key_stands k keys ≡ repeats k (keys_of what (map noted_of mentions.now))) }
 {
     let mut met = Met {
         seen: KeySet::new(alloc),

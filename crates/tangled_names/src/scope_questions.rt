@@ -1,7 +1,7 @@
 //! Questions about a symbol and its scope.
 ghost use Rattle.std.specs.Prelude.{◌≡◌, ◌<◌, length};
 ghost use Rattle.semantic_syntax.specs.Reading.{scope_flags, scope_of, symbol_of};
-ghost use Rattle.tangle_model.specs.Repeated.{stands};
+ghost use Rattle.tangle_model.specs.Repeated.{key_stands};
 ghost use Rattle.tangle_model.specs.Tangled.{is_seen_by_eval, is_bare_namespace, is_inner_alias, may_be_passed};
 ghost use Rattle.tangled_names.specs.Stored.{node_key};
 
@@ -44,7 +44,7 @@ pub fn is_seen_by_eval(scoping: &Scoping, symbol: SymbolId) -> bool
 /// Whether one of the nodes opens the scope of the symbol.
 pub fn is_bound_by(scoping: &Scoping, openers: &KeySet<'_>, symbol: SymbolId) -> bool
     requires { symbol < length scoping.now.symbols }
-    ensures { result ≡ stands (node_key
+    ensures { result ≡ key_stands (node_key
         (scope_of scoping.now (symbol_of scoping.now symbol).scope).node) openers.now }
 {
     openers.has_node(opener_of(scoping, scoping.symbol_scope_id(symbol)))

@@ -4,7 +4,7 @@ ghost use Rattle.std.specs.Str.{chars};
 ghost use Rattle.semantic_model.specs.TablesOf.{tables_of};
 ghost use Rattle.semantic_syntax.specs.Tables.{Name};
 ghost use Rattle.tangle_model.specs.Tangled.{all_reasons, tangles_from, tangles};
-ghost use Rattle.tangled_names.specs.Facts.{told};
+ghost use Rattle.tangled_names.specs.Facts.{facts_tell};
 ghost use Rattle.tangled_names.specs.Found.{with_tangle, tangle_seen};
 
 use crate::facts::NameFacts;
@@ -79,7 +79,7 @@ fn holds(
     reason: Reason,
     name: &str,
 ) -> bool
-    ensures { result ≡ told facts.now source_type scoping.now reason (chars name.entry.now) }
+    ensures { result ≡ facts_tell facts.now source_type scoping.now reason (chars name.entry.now) }
 {
     match reason {
         Reason::BlockFunction => facts.block_functions.has_name(name),
@@ -128,7 +128,7 @@ fn reasons_for(
     name: &str,
 ) -> Result<Vec<Reason>, AllocError>
     ensures { IfOk result (λ found. found.items
-        ≡ filter (λ r. told facts.now source_type scoping.now r (chars name.entry.now))
+        ≡ filter (λ r. facts_tell facts.now source_type scoping.now r (chars name.entry.now))
         all_reasons) }
 {
     let mut found = Vec::new(alloc);
@@ -150,7 +150,8 @@ fn reasons_if(
     name: &str,
 ) -> Result<Vec<Reason>, AllocError>
     ensures { IfOk result (λ found. found.items
-        ≡ cond is (filter (λ r. told facts.now source_type scoping.now r (chars name.entry.now))
+        ≡ cond is
+        (filter (λ r. facts_tell facts.now source_type scoping.now r (chars name.entry.now))
         all_reasons) []) }
 {
     if is {
@@ -169,7 +170,7 @@ fn tangles_by(
 ) -> Result<TangledNames, AllocError>
     ensures { IfOk result (λ found. found
         ≡ tangles_from (λ (name : Name).
-        filter (λ r. told facts.now source_type scoping.now r name) all_reasons)
+        filter (λ r. facts_tell facts.now source_type scoping.now r name) all_reasons)
         (λ x. false) 0 scoping.now.symbols) }
 {
     let mut found = TangledNames::new(alloc);

@@ -19,8 +19,8 @@ abbrev pub usage_line : List ℕ
 usage_line = codes "usage: report|renamer|mangler|name_lint|tangled_names|file_check|module_linker [WORD ..]\n"
 
 -- a source that had an input, has this left, and never failed
-abbrev pub source_of : List ℕ → List ℕ → SourceCall
-source_of input left = record { left = Some input; left_then = Some left; faults = 0; faults_then = 0 }
+abbrev pub source_with : List ℕ → List ℕ → SourceCall
+source_with input left = record { left = Some input; left_then = Some left; faults = 0; faults_then = 0 }
 
 -- a sink that was empty, has taken a text, and never failed
 abbrev pub sink_of : List ℕ → SinkCall
@@ -33,7 +33,7 @@ IsRefused answer = (status : FindingStatus) × TellsEnd (sink_of answer.errs) us
 -- the tool of the name answers, or there is none
 abbrev pub AnswersAs : Option Tool → List (String Global) → List ℕ → Answer → Type 0
 AnswersAs None words input answer = IsRefused answer
-AnswersAs (Some tool) words input answer = (left : List ℕ) × (status : ToolStatus) × IsRunOf tool (source_of input left) (sink_of answer.out) (sink_of answer.errs) words status × (answer.status ≡ code_of (end_of status))
+AnswersAs (Some tool) words input answer = (left : List ℕ) × (status : ToolStatus) × IsRunOf tool (source_with input left) (sink_of answer.out) (sink_of answer.errs) words status × (answer.status ≡ code_of (end_of status))
 
 -- the answer to words and an input
 abbrev pub ToolAnswers : List (String Global) → List ℕ → Answer → Type 0

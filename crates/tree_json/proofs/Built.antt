@@ -5,7 +5,7 @@ use Rattle.semantic_tree.specs.Forest.{Forest, nothing, tree, join}
 use Rattle.semantic_tree.specs.Children.{single}
 use Rattle.semantic_tree.specs.declared.node.Node.{Node}
 use Rattle.tree_json.specs.Lines.{Line, lines_of, line_of, node_lines}
-use Rattle.tree_json.specs.Listing.{Continues, Ends}
+use Rattle.tree_json.specs.Listing.{Continues, IsLessDeep}
 
 lines_of-join : (depth : ℕ) (f g : Forest) → lines_of depth (join f g) ≡ lines_of depth f ++ lines_of depth g
 lines_of-join depth nothing g = refl
@@ -34,6 +34,6 @@ pub one_deeper : (depth : ℕ) (l : Line) (ls : List Line) → Continues (depth 
 one_deeper depth l ls goes below = omega arith
 
 -- what goes on behind a child goes on in its parent
-pub goes_up : (depth k : ℕ) (ls : List Line) → k ≡ depth + 1 → Continues (k + 1) ls → Ends (k + 1) ls → Continues (depth + 1) ls
+pub goes_up : (depth k : ℕ) (ls : List Line) → k ≡ depth + 1 → Continues (k + 1) ls → IsLessDeep (k + 1) ls → Continues (depth + 1) ls
 goes_up depth k [] deeper goes ends = tt
 goes_up depth k (l ∷ ls) deeper goes ends = (omega arith, (λ _. goes.1 (omega arith)), goes.2)

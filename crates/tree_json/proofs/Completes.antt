@@ -25,7 +25,7 @@ use Rattle.tree_json.specs.Lines.{Line, lines_of, listing}
 use Rattle.tree_json.specs.Listing.{Continues, IsListing}
 use Rattle.tree_json.specs.Form.{Texts, line_of_data}
 use Rattle.tree_json.specs.Comments.{all_items}
-use Rattle.tree_json.specs.Reading.{listed, follows, line_at, lines_from, shallow_from, listing_of, are_too_many, lines_with, lines_in, listed_of, listed_in, reading}
+use Rattle.tree_json.specs.Reading.{listed_program, follows, line_at, lines_from, shallow_from, listing_of, are_too_many, lines_with, lines_in, listed_of, listed_in, reading}
 use Rattle.tree_json.specs.WrittenForm.{IsWrittenForm}
 use Rattle.tree_json.proofs.Items.{all_items-some, all_items-len}
 use Rattle.tree_json.proofs.Laws.{listing-IsListing}
@@ -141,12 +141,12 @@ lines_with-form d p form sound =
     rw (not_empty (items_len form.top.rows) (count p.root.children) len, form.source, few_nodes p (items_len form.top.rows) len sound)
     (listing_of-form form.texts form.top.rows p form.rows sound)
 
-listed_of-form : (d : Data) (p : Tree) (form : IsWrittenForm d p) → first_fault p ≡ None → listed_of form.top ≡ Ok (listed p)
+listed_of-form : (d : Data) (p : Tree) (form : IsWrittenForm d p) → first_fault p ≡ None → listed_of form.top ≡ Ok (listed_program p)
 unfolding listed_of lines_in
 listed_of-form d p form sound =
     rw (form.comments, form.told, lines_with-form d p form sound, form.source, form.source_type) refl
 
-pub reading-form : (bytes : List ℕ) (d : Data) (p : Tree) → IsUtf8 bytes → read bytes ≡ Some d → IsWrittenForm d p → first_fault p ≡ None → reading bytes ≡ Ok (listed p)
+pub reading-form : (bytes : List ℕ) (d : Data) (p : Tree) → IsUtf8 bytes → read bytes ≡ Some d → IsWrittenForm d p → first_fault p ≡ None → reading bytes ≡ Ok (listed_program p)
 unfolding reading listed_in
 reading-form bytes d p utf8 is form sound =
     rw (value_in_ok NotJson bytes d utf8 is, form.formed) (listed_of-form d p form sound)

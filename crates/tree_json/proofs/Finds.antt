@@ -11,7 +11,7 @@ use Rattle.tree_json.specs.Lines.{Line}
 use Rattle.tree_json.specs.Form.{Texts, line_of_data}
 use Rattle.tree_json.specs.Comments.{all_items, comment_of_data}
 use Rattle.tree_json.specs.Top.{TopForm, top_of_data, texts_in}
-use Rattle.tree_json.specs.Reading.{Listed, listed, if_follows, line_at, lines_from, shallow_from, listing_of, if_some, if_few, lines_with, lines_in, listed_of, value_in, listed_in, reading}
+use Rattle.tree_json.specs.Reading.{Listed, listed_program, if_follows, line_at, lines_from, shallow_from, listing_of, if_some, if_few, lines_with, lines_in, listed_of, value_in, listed_in, reading}
 use Rattle.tree_json.specs.WrittenForm.{IsWrittenForm}
 use Rattle.tree_json.proofs.Items.{ok_or-ok}
 use Rattle.tree_json.proofs.Outcomes.{bind_ok}
@@ -49,13 +49,13 @@ lines_with-items top comments texts ls h =
     let (few, are_few, last) = bind_ok (if_few _ comments top.source) _ ls more in
     listing_of-items texts top.rows ls last
 
-listed_of-found : (d : Data) (top : TopForm) (p : Tree) → top_of_data d ≡ Some top → listed_of top ≡ Ok (listed p) → IsWrittenForm d p
+listed_of-found : (d : Data) (top : TopForm) (p : Tree) → top_of_data d ≡ Some top → listed_of top ≡ Ok (listed_program p) → IsWrittenForm d p
 unfolding listed_of lines_in
 listed_of-found d top p formed h =
-    let (comments, comments_are, more) = bind_ok (ok_or (all_items comment_of_data top.comments) (Shape None)) _ (listed p) h in
-    let (lines, lines_are, last) = bind_ok (lines_in top (length comments)) _ (listed p) more in
+    let (comments, comments_are, more) = bind_ok (ok_or (all_items comment_of_data top.comments) (Shape None)) _ (listed_program p) h in
+    let (lines, lines_are, last) = bind_ok (lines_in top (length comments)) _ (listed_program p) more in
     let (texts, texts_are, rows) = bind_ok (ok_or (texts_in top.texts) (Shape None)) (lines_with top (length comments)) lines lines_are in
-    let whole : ◌≡◌ {A = Listed} (record { source = top.source; source_type = top.source_type; comments = comments; lines = lines }) (listed p) = cc in
+    let whole : ◌≡◌ {A = Listed} (record { source = top.source; source_type = top.source_type; comments = comments; lines = lines }) (listed_program p) = cc in
     record {
       top = top;
       formed = formed;
@@ -77,10 +77,10 @@ value_in-found bytes d h =
     let (valid, is) = value_in-cases (is_utf8 bytes) bytes d h in
     (IsUtf8-from_is_utf8 bytes valid, is)
 
-pub reading-found : (bytes : List ℕ) (p : Tree) → reading bytes ≡ Ok (listed p) → IsUtf8 bytes × ((d : Data) × (read bytes ≡ Some d) × IsWrittenForm d p)
+pub reading-found : (bytes : List ℕ) (p : Tree) → reading bytes ≡ Ok (listed_program p) → IsUtf8 bytes × ((d : Data) × (read bytes ≡ Some d) × IsWrittenForm d p)
 unfolding reading listed_in
 reading-found bytes p h =
-    let (d, in', says) = bind_ok (value_in NotJson bytes) listed_in (listed p) h in
+    let (d, in', says) = bind_ok (value_in NotJson bytes) listed_in (listed_program p) h in
     let (utf8, is) = value_in-found bytes d in' in
-    let (top, formed, more) = bind_ok (ok_or (top_of_data d) (Shape None)) listed_of (listed p) says in
+    let (top, formed, more) = bind_ok (ok_or (top_of_data d) (Shape None)) listed_of (listed_program p) says in
     (utf8, (d, is, listed_of-found d top p (ok_or-ok (top_of_data d) (Shape None) top formed) more))

@@ -6,7 +6,7 @@ use Rattle.semantic_tree.specs.Children.{numbered_node}
 use Rattle.semantic_tree.specs.declared.node.Node.{Node}
 use Rattle.semantic_tree.proofs.Forests.{count-numbered}
 use Rattle.tree_json.specs.Lines.{Line, lines_of, line_of, listing}
-use Rattle.tree_json.specs.Listing.{Continues, Ends, IsListing}
+use Rattle.tree_json.specs.Listing.{Continues, IsLessDeep, IsListing}
 
 -- ---- a tree's listing is a listing
 
@@ -25,12 +25,12 @@ listing-IsListing root =
 
 -- ---- no other tree has it
 
-Ends-after : (f : Forest) (depth : ℕ) (xs : List Line) → Ends depth xs → Ends (depth + 1) (lines_of depth f ++ xs)
+Ends-after : (f : Forest) (depth : ℕ) (xs : List Line) → IsLessDeep depth xs → IsLessDeep (depth + 1) (lines_of depth f ++ xs)
 Ends-after nothing depth [] ends = tt
 Ends-after nothing depth (x ∷ xs) ends = omega arith
 Ends-after (tree role kind span text marks below id after) depth xs ends = omega arith
 
-lines_of-same : (f g : Forest) (n depth : ℕ) (xs ys : List Line) → Ends depth xs → Ends depth ys → lines_of depth f ++ xs ≡ lines_of depth g ++ ys → (numbered n f ≡ numbered n g) × (xs ≡ ys)
+lines_of-same : (f g : Forest) (n depth : ℕ) (xs ys : List Line) → IsLessDeep depth xs → IsLessDeep depth ys → lines_of depth f ++ xs ≡ lines_of depth g ++ ys → (numbered n f ≡ numbered n g) × (xs ≡ ys)
 lines_of-same nothing nothing n depth xs ys ends_x ends_y h = (refl, h)
 lines_of-same nothing (tree role kind span text marks below id after) n depth [] ys ends_x ends_y h = absurd (cc)
 lines_of-same nothing (tree role kind span text marks below id after) n depth (x ∷ xs) ys ends_x ends_y h =

@@ -11,7 +11,7 @@ use Rattle.semantic_kinds.specs.declared.mark.Mark.{Mark}
 use Rattle.semantic_kinds.specs.declared.marks.Marks.{Marks}
 use Rattle.semantic_kinds.proofs.MarkNames.{mark_named-mark_name}
 use Rattle.tree_json.specs.Form.{marks_from, marks_of_data}
-use Rattle.tree_json.specs.Written.{mark_data, AreRead}
+use Rattle.tree_json.specs.Written.{mark_data, MarksAreRead}
 
 -- the bits of these marks are the powers of two from the k-th on
 abbrev are_powers : ℕ → List Mark → Bool
@@ -56,7 +56,7 @@ new-filter p (m ∷ ms) k marks powers free =
     ]
 
 -- the marks of a set are read again, if it is the set of its marks
-pub marks_again : (marks : Marks) → set_of (marks_in marks) ≡ marks → AreRead marks
+pub marks_again : (marks : Marks) → set_of (marks_in marks) ≡ marks → MarksAreRead marks
 unfolding marks_of_data
 marks_again marks known =
     marks_from-new (marks_in marks) no_marks (new-filter (has_mark marks) all_marks 0 no_marks refl (λ i h. bit_at-zero i)) ∙ ap Some known

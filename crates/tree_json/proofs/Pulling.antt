@@ -18,7 +18,7 @@ use Rattle.semantic_kinds.specs.declared.marks.Marks.{Marks}
 use Rattle.tree_json.specs.Comments.{comment_kind_named, comment_kind_of_data, comment_of_data, all_items}
 use Rattle.tree_json.specs.Form.{in_rows, whole_number, text_in, role_of_data, kind_of_data, span_of_data, marks_of_data, marks_from, line_of_data}
 use Rattle.tree_json.specs.Listing.{line}
-use Rattle.tree_json.specs.Pulled.{Tokens, IsNumber, IsSpan, IsValue, AreItems, Pulls, PullsItems, of_list, IsHead}
+use Rattle.tree_json.specs.Pulled.{Tokens, PullsNumber, IsSpan, IsValue, AreItems, Pulls, PullsItems, of_list, IsHead}
 use Rattle.tree_json.specs.declared.row.Row.{Row}
 use Rattle.semantic_tree.specs.declared.comment.Comment.{Comment}
 
@@ -44,7 +44,7 @@ number_of-numeral ds h small =
     let value : numeral_digits (digits ds) ≡ digits_value 10 ds = rw (append-nil ds) in
     ap number_of (sym (append-nil ds)) ∙ number_of-digits ds h ∙ rw (is, value) (rw (lt-ltb _ _ fits))
 
-pub number_pulled : (old new : Tokens) (s bytes : List ℕ) (o : Option ℕ) → old ≡ Token.number s ∷ new → bytes ≡ s → IfSome o (λ n. IsNumeral 10 bytes × (n ≡ digits_value 10 bytes) × (n < 2 ^ 32)) → IfSome o (λ n. IsNumber old n new)
+pub number_pulled : (old new : Tokens) (s bytes : List ℕ) (o : Option ℕ) → old ≡ Token.number s ∷ new → bytes ≡ s → IfSome o (λ n. IsNumeral 10 bytes × (n ≡ digits_value 10 bytes) × (n < 2 ^ 32)) → IfSome o (λ n. PullsNumber old n new)
 number_pulled old new s bytes None e same h = tt
 number_pulled old new s bytes (Some n) e same h =
     let small : digits_value 10 bytes < 2 ^ 32 = omega (arith, h.1, h.2) in
@@ -52,7 +52,7 @@ number_pulled old new s bytes (Some n) e same h =
 
 -- ---- single values
 
-pub number_value : (old new : Tokens) (n : ℕ) → IsNumber old n new → IsValue 0 old (number (unsigned n)) new
+pub number_value : (old new : Tokens) (n : ℕ) → PullsNumber old n new → IsValue 0 old (number (unsigned n)) new
 number_value old new n h = record { value = json.number h.0; tokens = h.1; gives = ap (option_map number) h.2; shallow = omega arith }
 
 pub string_value : (old new : Tokens) (s : List ℕ) → old ≡ Token.string s ∷ new → IsValue 0 old (string s) new

@@ -24,9 +24,9 @@ use Rattle.semantic_tree.specs.declared.node.Node.{Node}
 use Rattle.semantic_tree.specs.declared.place.Place.{Place}
 use Rattle.tree_json.specs.Form.{Texts, in_rows, in_list}
 use Rattle.tree_json.specs.Lines.{Line, lines_of, listing}
-use Rattle.tree_json.specs.Reading.{listed, reading}
+use Rattle.tree_json.specs.Reading.{listed_program, reading}
 use Rattle.tree_json.specs.Views.{characters, IsSpelled}
-use Rattle.tree_json.specs.Written.{texts_of, program_data, AreRead, IsTold, IsTextAgain, IsReadable, Each}
+use Rattle.tree_json.specs.Written.{texts_of, program_data, MarksAreRead, IsTold, IsTextAgain, IsReadable, Each}
 use Rattle.tree_json.proofs.Completes.{neither, first_none, rest_none, listing-len, reading-form}
 use Rattle.tree_json.proofs.MarksAgain.{marks_again}
 use Rattle.tree_json.proofs.TextsAgain.{IsAmong, told-found, texts_from-has, texts_from-len}
@@ -50,7 +50,7 @@ marks_below depth place kind (tree role k span text marks below id after) =
     ∙ (λ i. inside i ++ later i)
     ∙ sym (map-append placed_marks (placed_below (child_place place kind role) k below) (placed_below place kind after)))
 
-marks_read : (xs : List (Place × Node)) (ls : List Line) → map line_marks ls ≡ map placed_marks xs → first_where is_misshapen xs ≡ None → Each (λ (l : Line). AreRead l.marks) ls
+marks_read : (xs : List (Place × Node)) (ls : List Line) → map line_marks ls ≡ map placed_marks xs → first_where is_misshapen xs ≡ None → Each (λ (l : Line). MarksAreRead l.marks) ls
 marks_read [] [] same none = tt
 marks_read [] (l ∷ ls) same none = absurd (cc)
 marks_read (x ∷ xs) [] same none = absurd (cc)
@@ -59,11 +59,11 @@ marks_read (x ∷ xs) (l ∷ ls) same none =
     let others : map line_marks ls ≡ map placed_marks xs = cc in
     let (formed, rest) = neither (is_misshapen x.0 x.1) x.1.node_id (first_where is_misshapen xs) none in
     let known = allowed-marks_in x.1.kind x.1.marks (form_holds x.0 x.1 formed).marks in
-    (subst AreRead own (marks_again x.1.marks known), marks_read xs ls others rest)
+    (subst MarksAreRead own (marks_again x.1.marks known), marks_read xs ls others rest)
 
 -- ---- a program without fault
 
-listing_marks : (p : Tree) → first_fault p ≡ None → Each (λ (l : Line). AreRead l.marks) (listing p.root)
+listing_marks : (p : Tree) → first_fault p ≡ None → Each (λ (l : Line). MarksAreRead l.marks) (listing p.root)
 listing_marks p sound =
     let source = encode_utf8_all p.source in
     let (few, formed) = neither (is_too_large source p.comments p.root) TooMany (form_fault source p.comments p.root) sound in
@@ -99,7 +99,7 @@ text_of texts p d (Ok b) is said = said (ap has_float is ∙ program_float texts
 text_of texts p d (Err e) is said = tt
 
 pub plain_again : (p : Tree) (d : Data) (result : Result (Vec ℕ Global) AllocError) → d ≡ program_data in_rows p → IsShaped p → IsReadable in_rows p
-    → IfOk result (λ b. IsUtf8 b.items) → IfOk result (λ b. depth d ≤ max_depth → read b.items ≡ Some d) → IfOk result (λ b. reading b.items ≡ Ok (listed p))
+    → IfOk result (λ b. IsUtf8 b.items) → IfOk result (λ b. depth d ≤ max_depth → read b.items ≡ Some d) → IfOk result (λ b. reading b.items ≡ Ok (listed_program p))
 plain_again p d (Ok b) is shaped readable utf8 back =
     let sound = IsShaped-no_fault p shaped in
     let low : depth d ≤ max_depth = rw is (program_low in_rows p) in
@@ -108,7 +108,7 @@ plain_again p d (Err e) is shaped readable utf8 back = tt
 
 pub texts_again : (p : Tree) (d : Data) (result : Result (Vec ℕ Global) AllocError) → Each IsTextAgain (texts_of p)
     → d ≡ program_data (in_list (texts_of p)) p → IsShaped p → IsReadable (in_list (texts_of p)) p
-    → IfOk result (λ b. IsUtf8 b.items) → IfOk result (λ b. depth d ≤ max_depth → read b.items ≡ Some d) → IfOk result (λ b. reading b.items ≡ Ok (listed p))
+    → IfOk result (λ b. IsUtf8 b.items) → IfOk result (λ b. depth d ≤ max_depth → read b.items ≡ Some d) → IfOk result (λ b. reading b.items ≡ Ok (listed_program p))
 texts_again p d (Ok b) again is shaped readable utf8 back =
     let sound = IsShaped-no_fault p shaped in
     let low : depth d ≤ max_depth = rw is (program_low (in_list (texts_of p)) p) in

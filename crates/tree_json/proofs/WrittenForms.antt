@@ -19,7 +19,7 @@ use Rattle.tree_json.specs.Form.{Texts, in_rows, in_list, text_in, line_of_data}
 use Rattle.tree_json.specs.Lines.{Line, listing}
 use Rattle.tree_json.specs.Top.{goal_name, goal_named, goal_at, lang_name, lang_named, lang_at, source_type_at, text_at, word_at, list_at, number_at, has_members, texts_at, top_of_data}
 use Rattle.tree_json.specs.WrittenForm.{IsWrittenForm}
-use Rattle.tree_json.specs.Written.{text_data, told_text, mark_data, line_data, comment_data, object_data, program_data, AreRead, IsTold, IsReadAgain, IsTextAgain, IsReadable, Each}
+use Rattle.tree_json.specs.Written.{text_data, told_text, mark_data, line_data, comment_data, object_data, program_data, MarksAreRead, IsTold, IsReadAgain, IsTextAgain, IsReadable, Each}
 
 -- ---- no floats, and little depth
 
@@ -134,7 +134,7 @@ all_items-map : {X : Type 0} (form : Data → Option X) (f : X → Data) (xs : L
 all_items-map form f [] again = refl
 all_items-map form f (x ∷ xs) again = rw (again.0, all_items-map form f xs again.1) refl
 
-lines_again : (texts : Texts) (ls : List Line) → Each (IsReadAgain texts) ls → Each (λ (l : Line). AreRead l.marks) ls → Each (λ (l : Line). IsTold texts l.text) ls
+lines_again : (texts : Texts) (ls : List Line) → Each (IsReadAgain texts) ls → Each (λ (l : Line). MarksAreRead l.marks) ls → Each (λ (l : Line). IsTold texts l.text) ls
     → Each (λ l. line_of_data texts (line_data texts l) ≡ Some l) ls
 lines_again texts [] again marks told = tt
 lines_again texts (l ∷ ls) again marks told = (again.0 marks.0 told.0, lines_again texts ls again.1 marks.1 told.1)
@@ -143,7 +143,7 @@ told_in_rows : (ls : List Line) → Each (λ (l : Line). IsTold in_rows l.text) 
 told_in_rows [] = tt
 told_in_rows (l ∷ ls) = (tt, told_in_rows ls)
 
-pub plain_form : (p : Tree) → IsReadable in_rows p → Each (λ (l : Line). AreRead l.marks) (listing p.root) → IsWrittenForm (program_data in_rows p) p
+pub plain_form : (p : Tree) → IsReadable in_rows p → Each (λ (l : Line). MarksAreRead l.marks) (listing p.root) → IsWrittenForm (program_data in_rows p) p
 unfolding program_data
 plain_form p again marks = record {
   top = record { source = chars (encode_utf8_all p.source); source_type = p.source_type; comments = items_of (map comment_data p.comments); texts = None; rows = items_of (map (line_data in_rows) (listing p.root)) };
@@ -162,7 +162,7 @@ texts_again [] again = tt
 texts_again (t ∷ ts) again = (ap Some again.0, texts_again ts again.1)
 
 pub texts_form : (p : Tree) (texts : List (List ℕ)) → IsReadable (in_list texts) p → Each IsTextAgain texts → Each (λ (l : Line). IsTold (in_list texts) l.text) (listing p.root)
-    → Each (λ (l : Line). AreRead l.marks) (listing p.root) → IsWrittenForm (program_data (in_list texts) p) p
+    → Each (λ (l : Line). MarksAreRead l.marks) (listing p.root) → IsWrittenForm (program_data (in_list texts) p) p
 unfolding program_data
 texts_form p texts again spelled told marks = record {
   top = record { source = chars (encode_utf8_all p.source); source_type = p.source_type; comments = items_of (map comment_data p.comments); texts = Some (items_of (map text_data texts)); rows = items_of (map (line_data (in_list texts)) (listing p.root)) };

@@ -19,6 +19,6 @@ IsListing [] = ⊥
 IsListing (l ∷ ls) = (l.role ≡ Root) × Continues 0 (l ∷ ls)
 
 -- what follows is less deep
-abbrev pub Ends : ℕ → List Line → Type 0
-Ends depth [] = Unit {0}
-Ends depth (l ∷ ls) = l.depth < depth
+abbrev pub IsLessDeep : ℕ → List Line → Type 0
+IsLessDeep depth [] = Unit {0}
+IsLessDeep depth (l ∷ ls) = l.depth < depth

@@ -23,12 +23,12 @@ abbrev pub Tokens : Type 0
 Tokens = List Token
 
 -- of the tokens `old`, the first is a whole number of 32 bits, and `new` are the others
-abbrev pub IsNumber : Tokens → ℕ → Tokens → Type 0
-IsNumber old n new = (s : List ℕ) × (old ≡ Token.number s ∷ new) × (number_of s ≡ Some (unsigned n)) × (n < 2 ^ 32)
+abbrev pub PullsNumber : Tokens → ℕ → Tokens → Type 0
+PullsNumber old n new = (s : List ℕ) × (old ≡ Token.number s ∷ new) × (number_of s ≡ Some (unsigned n)) × (n < 2 ^ 32)
 
 -- the first two are the numbers of a span
 abbrev pub IsSpan : Tokens → Span → Tokens → Type 0
-IsSpan old span new = (mid : Tokens) × IsNumber old span.start mid × IsNumber mid span.end new
+IsSpan old span new = (mid : Tokens) × PullsNumber old span.start mid × PullsNumber mid span.end new
 
 -- the first tokens are those of a value, which is this data, and `new` are the others; arrays and objects nest at most so deep
 pub record IsValue (deepest : ℕ) (old : Tokens) (d : Data) (new : Tokens) : Type 0 where
@@ -59,14 +59,14 @@ of_list form d = as_array d >>= form
 -- behind the bracket of a row stand its depth, role, kind, span and text
 abbrev pub IsHead : Tokens → Row → Tokens → Type 0
 IsHead old row new = (r : List ℕ) × (k : List ℕ) × (a : Tokens) × (b : Tokens)
-    × IsNumber old row.depth (Token.string r ∷ Token.string k ∷ a) × (role_named r ≡ Some row.role) × (kind_named k ≡ Some row.kind)
+    × PullsNumber old row.depth (Token.string r ∷ Token.string k ∷ a) × (role_named r ≡ Some row.role) × (kind_named k ≡ Some row.kind)
     × IsSpan a row.span b × (b ≡ Token.string row.text.now ∷ new)
 
 -- from the key of the format on up to that of the rows: the format, which is 1, and the type of the source
 abbrev pub IsType : Tokens → SourceType → Tokens → Type 0
 IsType old t new = (goal : List ℕ) × (lang : List ℕ) × (a : Tokens)
     × (old ≡ Token.key (codes "format") ∷ a)
-    × IsNumber a 1 (Token.key (codes "goal") ∷ Token.string goal ∷ Token.key (codes "lang") ∷ Token.string lang ∷ Token.key (codes "rows") ∷ new)
+    × PullsNumber a 1 (Token.key (codes "goal") ∷ Token.string goal ∷ Token.key (codes "lang") ∷ Token.string lang ∷ Token.key (codes "rows") ∷ new)
     × (goal_named goal ≡ Some t.goal) × (lang_named lang ≡ Some t.lang)
 
 -- the value is a top object in the first format, and says what was pulled

@@ -30,8 +30,8 @@ pub record Listed : Type 0 where
   pub comments : List Comment
   pub lines : List Line
 
-abbrev pub listed : Tree → Listed
-listed p = record { source = p.source; source_type = p.source_type; comments = p.comments; lines = listing p.root }
+abbrev pub listed_program : Tree → Listed
+listed_program p = record { source = p.source; source_type = p.source_type; comments = p.comments; lines = listing p.root }
 
 -- the line may stand where so many nodes are open
 unfoldable pub follows : ℕ → Line → Bool
@@ -102,4 +102,4 @@ reading bytes = value_in NotJson bytes >>= listed_in
 
 -- what was read is refused: it is no listing, or that of a program which has this as its first fault
 abbrev pub Refuses : Result Listed TreeError → TreeError → Type 0
-Refuses read fault = (read ≡ Err fault) ⊎ ((p : Tree) × IsNumbered p.root × (read ≡ Ok (listed p)) × (first_fault p ≡ Some fault))
+Refuses read fault = (read ≡ Err fault) ⊎ ((p : Tree) × IsNumbered p.root × (read ≡ Ok (listed_program p)) × (first_fault p ≡ Some fault))

@@ -105,8 +105,8 @@ Each P [] = Unit {0}
 Each P (x ∷ xs) = P x × Each P xs
 
 -- the marks are read again from what is written for them
-abbrev pub AreRead : Marks → Type 0
-AreRead marks = marks_of_data (array (marks_items marks)) ≡ Some marks
+abbrev pub MarksAreRead : Marks → Type 0
+MarksAreRead marks = marks_of_data (array (marks_items marks)) ≡ Some marks
 
 -- the list has the text at its place
 abbrev pub IsTold : Texts → List ℕ → Type 0
@@ -115,7 +115,7 @@ IsTold (in_list texts) text = text_of_data (in_list texts) (told_text (in_list t
 
 -- a line whose marks are read again, and whose text is told, is read again
 abbrev pub IsReadAgain : Texts → Line → Type 0
-IsReadAgain texts l = AreRead l.marks → IsTold texts l.text → line_of_data texts (line_data texts l) ≡ Some l
+IsReadAgain texts l = MarksAreRead l.marks → IsTold texts l.text → line_of_data texts (line_data texts l) ≡ Some l
 
 -- a comment is read again
 abbrev pub IsCommentAgain : Comment → Type 0

@@ -2,7 +2,7 @@
 //! the order in which a walk comes to them.
 ghost use Rattle.std.specs.Prelude.{◌≡◌, ◌+◌, ◌<◌, ◌≤◌, ◌∷◌, ◌++◌, drop, length, map, IfOk, IfSome, OnOk, None};
 ghost use Rattle.tree_json.specs.Lines.{listing, node_lines};
-ghost use Rattle.tree_json.specs.Listing.{line, Continues, Ends, IsListing};
+ghost use Rattle.tree_json.specs.Listing.{line, Continues, IsLessDeep, IsListing};
 
 use crate::row::Row;
 use semantic_tree::node::Node;
@@ -50,7 +50,8 @@ fn node_of(
         ≡ line row.now ∷ map line (drop place.old rows.now)) }
     ensures rest { OnOk result (Continues (row.now.depth + 1)
         (map line (drop place.new rows.now))) }
-    ensures end { OnOk result (Ends (row.now.depth + 1) (map line (drop place.new rows.now))) }
+    ensures end { OnOk result (IsLessDeep (row.now.depth + 1)
+        (map line (drop place.new rows.now))) }
     ensures forward { OnOk result (place.old ≤ place.new) }
 {
     let room = counts.next().copied().unwrap_or(0) as usize;
@@ -69,7 +70,7 @@ fn node_of(
 fn deeper<'r, 'a>(rows: &'r [Row<'a>], place: usize, depth: u32) -> Option<&'r Row<'a>>
     ensures some { IfSome result (λ row. (depth < row.now.depth) × (place < length rows.now)
         × (map line (drop place rows.now) ≡ line row.now ∷ map line (drop (place + 1) rows.now))) }
-    ensures none { result ≡ None → Ends (depth + 1) (map line (drop place rows.now)) }
+    ensures none { result ≡ None → IsLessDeep (depth + 1) (map line (drop place rows.now)) }
 {
     if place < rows.len() && rows[place].depth > depth {
         Some(&rows[place])

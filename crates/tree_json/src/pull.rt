@@ -2,14 +2,14 @@
 ghost use Rattle.std.specs.Prelude.{◌≡◌, ◌<◌, ◌^◌, [], ◌∷◌, length, IfSome, OnSome};
 ghost use Rattle.std.specs.Str.Parse.{IsNumeral, digits_value};
 ghost use Rattle.json.specs.Token as token;
-ghost use Rattle.tree_json.specs.Pulled.{IsNumber};
+ghost use Rattle.tree_json.specs.Pulled.{PullsNumber};
 
 use json::{Reader, Token};
 
 /// The next value, if it is a whole number of 32 bits that is written by digits alone.
 #[inline(always)]
 pub(crate) fn take_number(reader: &mut Reader<'_>) -> Option<u32>
-    ensures { IfSome result (λ n. IsNumber reader.old n reader.new) }
+    ensures { IfSome result (λ n. PullsNumber reader.old n reader.new) }
 {
     match reader.next()? {
         Token::Number(text) => number_of(text.as_bytes()),

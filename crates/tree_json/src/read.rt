@@ -13,7 +13,7 @@ ghost use Rattle.tree_json.specs.Lines.{listing};
 ghost use Rattle.tree_json.specs.Listing.{line, IsListing};
 ghost use Rattle.tree_json.specs.Views.{top_view, texts_view, parts_view};
 ghost use Rattle.tree_json.specs.Outcome.{Gives, IsWantOfMemory};
-ghost use Rattle.tree_json.specs.Reading.{value_in, lines_with, lines_in, listed_of, listed_in, reading, listed, are_too_many, shallow_from, Refuses};
+ghost use Rattle.tree_json.specs.Reading.{value_in, lines_with, lines_in, listed_of, listed_in, reading, listed_program, are_too_many, shallow_from, Refuses};
 ghost use Rattle.tree_json.specs.Pulled.{IsPulled};
 
 use crate::build::tree_of;
@@ -50,7 +50,7 @@ struct Parts {
 /// not of the row form; then as `Program::new`. `Memory` may come at any place.
 pub fn read_program(alloc: Global, bytes: &[u8]) -> Result<Program, TreeError>
     // Which program is read.
-    ensures read { IfOk result (λ p. reading bytes.now ≡ Ok (listed p)) }
+    ensures read { IfOk result (λ p. reading bytes.now ≡ Ok (listed_program p)) }
     ensures numbered { IfOk result (λ p. IsNumbered p.root) }
     ensures shaped { IfOk result (λ p. IsShaped p) }
     // Which refusal it is.
@@ -66,7 +66,7 @@ pub fn read_program(alloc: Global, bytes: &[u8]) -> Result<Program, TreeError>
 
 #[tactic(auto, unfolding(crate::specs::Reading::reading))]
 fn read_all(alloc: Global, bytes: &[u8]) -> Result<Program, TreeError>
-    ensures read { IfOk result (λ p. reading bytes.now ≡ Ok (listed p)) }
+    ensures read { IfOk result (λ p. reading bytes.now ≡ Ok (listed_program p)) }
     ensures numbered { IfOk result (λ p. IsNumbered p.root) }
     ensures shaped { IfOk result (λ p. IsShaped p) }
     ensures refused { IfErr result (λ e. ¬ IsWantOfMemory e → Refuses (reading bytes.now) e) }
@@ -163,11 +163,11 @@ fn parts_with(
 
 /// The program of these parts, if it has no fault.
 fn program_of(alloc: Global, parts: Parts) -> Result<Program, TreeError>
-    ensures read { IfOk result (λ p. listed p ≡ parts_view parts) }
+    ensures read { IfOk result (λ p. listed_program p ≡ parts_view parts) }
     ensures numbered { IfOk result (λ p. IsNumbered p.root) }
     ensures shaped { IfOk result (λ p. IsShaped p) }
     ensures refused { IfErr result
-        (λ e. (p : Tree) × IsNumbered p.root × (listed p ≡ parts_view parts)
+        (λ e. (p : Tree) × IsNumbered p.root × (listed_program p ≡ parts_view parts)
         × (first_fault p ≡ Some e)) }
 {
     Program::new(

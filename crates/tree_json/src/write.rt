@@ -9,7 +9,7 @@ ghost use Rattle.tree_json.specs.Lines.{listing};
 ghost use Rattle.tree_json.specs.Listing.{line};
 ghost use Rattle.tree_json.specs.Top.{goal_name, lang_name};
 ghost use Rattle.tree_json.specs.Views.{characters, places_view, IsSpelled, AreSpelled};
-ghost use Rattle.tree_json.specs.Reading.{reading, listed};
+ghost use Rattle.tree_json.specs.Reading.{reading, listed_program};
 ghost use Rattle.tree_json.specs.WrittenForm.{AreWrittenForm};
 ghost use Rattle.tree_json.specs.Written.{texts_of, comment_data, rows_data, text_data, object_data, program_data, texts_member, Each, IsReadable, IsTextAgain};
 
@@ -39,7 +39,7 @@ pub fn write_program(alloc: Global, program: &Program) -> Result<Vec<u8>, AllocE
     ensures text { IfOk result (λ bytes. bytes.items
         ≡ compact_text (program_data in_rows program.now)) }
     ensures written { IfOk result (λ bytes. AreWrittenForm bytes.items program.now) }
-    ensures again { IfOk result (λ bytes. reading bytes.items ≡ Ok (listed program.now)) }
+    ensures again { IfOk result (λ bytes. reading bytes.items ≡ Ok (listed_program program.now)) }
 {
     let rows = rows_of(alloc, program)?;
     let value = plain_value(alloc, program, &rows)?;
@@ -51,7 +51,7 @@ pub fn write_program_with_texts(alloc: Global, program: &Program) -> Result<Vec<
     ensures text { IfOk result (λ bytes. bytes.items
         ≡ compact_text (program_data (in_list (texts_of program.now)) program.now)) }
     ensures written { IfOk result (λ bytes. AreWrittenForm bytes.items program.now) }
-    ensures again { IfOk result (λ bytes. reading bytes.items ≡ Ok (listed program.now)) }
+    ensures again { IfOk result (λ bytes. reading bytes.items ≡ Ok (listed_program program.now)) }
 {
     let rows = rows_of(alloc, program)?;
     let value = form_with_texts(alloc, program, &rows)?;

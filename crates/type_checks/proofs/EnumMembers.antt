@@ -10,7 +10,7 @@ use Rattle.std.specs.Result.{IsErrAnd}
 use Rattle.semantic_diagnostics.specs.declared.diagnostic.Diagnostic.{Diagnostic}
 use Rattle.semantic_diagnostics.specs.Types.{enum_member_must_have_initializer}
 use Rattle.check_model.specs.Search.{row_if, rows_if, rows_of_some, each_after, find_last}
-use Rattle.check_context.specs.Tells.{IsBegun, IsTelling, Tells}
+use Rattle.check_context.specs.Tells.{TellsSome, IsTelling, Tells}
 use Rattle.check_context.proofs.Telling.{begins, stops}
 use Rattle.check_model.specs.Types.{counts_on, last_initializer, member_rows}
 
@@ -57,7 +57,7 @@ begun members left before is =
 
 -- and stops for want of memory
 pub stopped : {A E : Type 0} (P : E → Type 0) (r : Result A E) (rows : List Diagnostic) (last : Option Node) (left rest : List Node) (member : Node) (before mid now : List Diagnostic)
-    → IsErrAnd r P → left ≡ member ∷ rest → child_of roles.Initializer member ≡ None → IsTelling rows (rows_from last left) before mid → IsBegun (rows_by None last member) mid now → Tells r rows before now
+    → IsErrAnd r P → left ≡ member ∷ rest → child_of roles.Initializer member ≡ None → IsTelling rows (rows_from last left) before mid → TellsSome (rows_by None last member) mid now → Tells r rows before now
 stopped P (Ok done) rows last left rest member before mid now e is none h k = absurd e
 stopped P (Err want) rows last left rest member before mid now e is none h k =
     stops rows (rows_by None last member) (rows_from last rest) before mid now

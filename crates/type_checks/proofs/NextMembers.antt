@@ -9,7 +9,7 @@ use Rattle.semantic_diagnostics.specs.declared.diagnostic.Diagnostic.{Diagnostic
 use Rattle.check_model.specs.Members.{implementation_rows}
 use Rattle.check_model.specs.Search.{each_between, first}
 use Rattle.check_context.specs.Grandchildren.{grandchildren_left}
-use Rattle.check_context.specs.Tells.{IsBegun, IsTelling, Tells}
+use Rattle.check_context.specs.Tells.{TellsSome, IsTelling, Tells}
 use Rattle.check_context.proofs.Telling.{goes_on, stops}
 use Rattle.check_context.specs.declared.grandchildren.Grandchildren.{Grandchildren}
 
@@ -35,7 +35,7 @@ turned rows last member old new next before mid now steps h k =
 
 -- the loop stops at a member for want of memory
 pub stopped : {A E : Type 0} (P : E → Type 0) (r : Result A E) (rows : List Diagnostic) (last : Option Node) (member : Node) (old new : Grandchildren) (next : Option AstKind) (before mid now : List Diagnostic)
-    → IsErrAnd r P → YieldsFirstBy shown grandchildren_left old next new → IsTelling rows (each_between implementation_rows last (member ∷ grandchildren_left old)) before mid → IsBegun (implementation_rows last member (option_map shown next)) mid now → Tells r rows before now
+    → IsErrAnd r P → YieldsFirstBy shown grandchildren_left old next new → IsTelling rows (each_between implementation_rows last (member ∷ grandchildren_left old)) before mid → TellsSome (implementation_rows last member (option_map shown next)) mid now → Tells r rows before now
 stopped P (Ok done) rows last member old new next before mid now e steps h k = absurd e
 stopped P (Err want) rows last member old new next before mid now e steps h k =
     stops rows (implementation_rows last member (option_map shown next)) (each_between implementation_rows (Some member) (from_next (option_map shown next) (grandchildren_left new))) before mid now

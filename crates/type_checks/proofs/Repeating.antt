@@ -8,7 +8,7 @@ use Rattle.semantic_tree.specs.declared.node.Node.{Node}
 use Rattle.semantic_diagnostics.specs.declared.diagnostic.Diagnostic.{Diagnostic}
 use Rattle.check_model.specs.Methods.{repeated_rows}
 use Rattle.check_model.specs.Search.{each_after}
-use Rattle.check_context.specs.Tells.{IsBegun, IsTelling, Tells}
+use Rattle.check_context.specs.Tells.{TellsSome, IsTelling, Tells}
 use Rattle.check_context.proofs.Telling.{goes_on, stops}
 use Rattle.type_checks.specs.Repeats.{last_span, rows_after, HasLast, IsRepeating}
 use Rattle.type_checks.proofs.LastSeen.{rows_are_after}
@@ -33,9 +33,9 @@ turned rows left rest name was seen after before mid now h is at more told = rec
 }
 
 pub stopped : {A E S : Type 0} (P : E → Type 0) (r : Result A E) (rows : List Diagnostic) (left rest : List Node) (name : Node) (was : Option Span) (seen : HashMap (Bor (List ℕ)) Span S) (before mid now : List Diagnostic)
-    → IsErrAnd r P → (h : IsRepeating rows left seen before mid) → left ≡ name ∷ rest → was ≡ last_span h.earlier name → IsBegun (rows_after was name) mid now → Tells r rows before now
+    → IsErrAnd r P → (h : IsRepeating rows left seen before mid) → left ≡ name ∷ rest → was ≡ last_span h.earlier name → TellsSome (rows_after was name) mid now → Tells r rows before now
 stopped P (Ok done) rows left rest name was seen before mid now e h is at k = absurd e
 stopped P (Err want) rows left rest name was seen before mid now e h is at k =
     stops rows (repeated_rows h.earlier name) (each_after repeated_rows (h.earlier ++ name ∷ []) rest) before mid now
     (next_is rows h.earlier left rest name before mid is h.telling)
-    (subst (λ l. IsBegun l mid now) (same_rows h.earlier name was at) k)
+    (subst (λ l. TellsSome l mid now) (same_rows h.earlier name was at) k)

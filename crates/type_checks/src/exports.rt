@@ -14,7 +14,7 @@ use std::alloc::{AllocError, Global};
 
 /// Whether a statement exports something otherwise than by assignment.
 fn exports(statement: AstKind<'_>) -> bool
-    ensures { result ≡ rows.exports statement.entry.node.now }
+    ensures { result ≡ rows.exports_otherwise statement.entry.node.now }
 {
     match statement.ty() {
         AstType::ExportNamedDeclaration | AstType::ExportFromDeclaration => {
@@ -29,7 +29,7 @@ fn exports(statement: AstKind<'_>) -> bool
 
 /// Whether a statement of a block exports something otherwise than by assignment.
 fn has_exports(block: AstKind<'_>) -> bool
-    ensures { result ≡ list_any rows.exports (all_in roles.Body block.entry.node.now) }
+    ensures { result ≡ list_any rows.exports_otherwise (all_in roles.Body block.entry.node.now) }
 {
     for statement in block.children(Role::Body) {
         if exports(statement) {

@@ -59,7 +59,7 @@ pub fn check_for_statement_left<'a>(
     out: &mut Diagnostics,
 ) -> Result<(), AllocError>
     requires { IsContext ctx.now }
-    ensures { Tells result (rows.check_for_statement_left kind.entry.node.now for_in
+    ensures { Tells result (rows.check_typed_for_statement_left kind.entry.node.now for_in
         (around ctx.now)) out.old out.new }
 {
     if kind.ty() == AstType::VariableDeclaration {

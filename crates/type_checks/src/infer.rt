@@ -14,7 +14,7 @@ use std::alloc::{AllocError, Global};
 
 /// Whether the outer span holds the inner one.
 fn holds(outer: Span, inner: Span) -> bool
-    ensures { result ≡ rows.holds outer inner }
+    ensures { result ≡ rows.span_holds outer inner }
 {
     outer.contains_inclusive(inner)
 }

@@ -58,7 +58,8 @@ pub fn check_class<'a>(
     out: &mut Diagnostics,
 ) -> Result<(), AllocError>
     requires { IsContext ctx.now }
-    ensures { Tells result (rows.check_class (sight kind.entry.node.now ctx.now)) out.old out.new }
+    ensures { Tells result (rows.check_class_members (sight kind.entry.node.now ctx.now)) out.old
+        out.new }
 {
     tell_concrete(alloc, kind, out)?;
     tell_bodies(alloc, kind, ctx, out)

@@ -9,45 +9,45 @@ use Rattle.semantic_syntax.specs.Tables.{Name}
 use Rattle.semantic_syntax.proofs.Truth.{or_true}
 use Rattle.unused_labels.specs.declared.labels.LabeledScope.{LabeledScope}
 use Rattle.unused_labels.specs.OpenNames.{names_around, next_or_first, last_place}
-use Rattle.unused_labels.specs.LabelStack.{Labelled, LabelLists, label_seen, is_of, innermost_used, if_unused, left}
+use Rattle.unused_labels.specs.LabelStack.{Labelled, LabelLists, label_seen, is_label_named, innermost_used, if_unused, label_left}
 
 neither : (a b : Bool) → (a || b) ≡ false → (a ≡ false) × (b ≡ false)
 neither false b h = (refl, h)
 neither true b h = absurd cc
 
 -- where no statement has the label, none is used
-pub unmoved : (name : Name) (ls : List Labelled) → list_any (is_of name) ls ≡ false → innermost_used name ls ≡ ls
+pub unmoved : (name : Name) (ls : List Labelled) → list_any (is_label_named name) ls ≡ false → innermost_used name ls ≡ ls
 unmoved name [] h = refl
-unmoved name (l ∷ ls) h = let e = neither (is_of name l) (list_any (is_of name) ls) h in rw (e.1, e.0) refl
+unmoved name (l ∷ ls) h = let e = neither (is_label_named name l) (list_any (is_label_named name) ls) h in rw (e.1, e.0) refl
 
 -- where no label has the name
-pub last_none : (name : Name) (items : List LabeledScope) → last_place name (names_around items) ≡ None → list_any (is_of name) (map label_seen items) ≡ false
+pub last_none : (name : Name) (items : List LabeledScope) → last_place name (names_around items) ≡ None → list_any (is_label_named name) (map label_seen items) ≡ false
 last_none name [] h = refl
 last_none name (l ∷ ls) h = by (last_place name (names_around ls)) refl h (λ e. last_none name ls e)
   where
-    here : (b : Bool) → next_or_first None b ≡ None → list_any (is_of name) (map label_seen ls) ≡ false → (b || list_any (is_of name) (map label_seen ls)) ≡ false
+    here : (b : Bool) → next_or_first None b ≡ None → list_any (is_label_named name) (map label_seen ls) ≡ false → (b || list_any (is_label_named name) (map label_seen ls)) ≡ false
     here true e none = absurd cc
     here false e none = none
 
     by : (o : Option ℕ) → last_place name (names_around ls) ≡ o → next_or_first o (bytes_eq (chars l.name.text.now) name) ≡ None
-        → (last_place name (names_around ls) ≡ None → list_any (is_of name) (map label_seen ls) ≡ false) → (is_of name (label_seen l) || list_any (is_of name) (map label_seen ls)) ≡ false
+        → (last_place name (names_around ls) ≡ None → list_any (is_label_named name) (map label_seen ls) ≡ false) → (is_label_named name (label_seen l) || list_any (is_label_named name) (map label_seen ls)) ≡ false
     by (Some k) e n rest = absurd cc
     by None e n rest = here (bytes_eq (chars l.name.text.now) name) n (rest e)
 
 -- the statement at the place has the label, and none further inward
 pub record IsInnermost (name : Name) (items : List LabeledScope) (i : ℕ) : Type 0 where
   pub within : i < length items
-  pub named : (x : LabeledScope) → x ≡ get_or items i x → is_of name (label_seen x) ≡ true
-  pub none : list_any (is_of name) (map label_seen (drop (suc i) items)) ≡ false
+  pub named : (x : LabeledScope) → x ≡ get_or items i x → is_label_named name (label_seen x) ≡ true
+  pub none : list_any (is_label_named name) (map label_seen (drop (suc i) items)) ≡ false
 
 pub last_is : (name : Name) (items : List LabeledScope) (i : ℕ) → last_place name (names_around items) ≡ Some i → IsInnermost name items i
 last_is name [] i h = absurd cc
 last_is name (l ∷ ls) i h = by (last_place name (names_around ls)) refl h (λ k e. last_is name ls k e)
   where
-    here : (b : Bool) → bytes_eq (chars l.name.text.now) name ≡ b → next_or_first None b ≡ Some i → list_any (is_of name) (map label_seen ls) ≡ false → IsInnermost name (l ∷ ls) i
+    here : (b : Bool) → bytes_eq (chars l.name.text.now) name ≡ b → next_or_first None b ≡ Some i → list_any (is_label_named name) (map label_seen ls) ≡ false → IsInnermost name (l ∷ ls) i
     here true e s none =
         let first : 0 ≡ i = cc in
-        subst (IsInnermost name (l ∷ ls)) first (record { within = omega arith; named = λ x t. ap (λ (y : LabeledScope). is_of name (label_seen y)) t ∙ e; none = none })
+        subst (IsInnermost name (l ∷ ls)) first (record { within = omega arith; named = λ x t. ap (λ (y : LabeledScope). is_label_named name (label_seen y)) t ∙ e; none = none })
     here false e s none = absurd cc
 
     next : (k : ℕ) → Some (suc k) ≡ Some i → IsInnermost name ls k → IsInnermost name (l ∷ ls) i
@@ -62,18 +62,18 @@ last_is name (l ∷ ls) i h = by (last_place name (names_around ls)) refl h (λ 
     by None e s inner = here (bytes_eq (chars l.name.text.now) name) refl s (last_none name ls e)
 
 some_has : (name : Name) (items : List LabeledScope) (i : ℕ) (x : LabeledScope) → i < length items → x ≡ get_or items i x
-    → is_of name (label_seen x) ≡ true → list_any (is_of name) (map label_seen items) ≡ true
+    → is_label_named name (label_seen x) ≡ true → list_any (is_label_named name) (map label_seen items) ≡ true
 some_has name [] i x h s e = absurd (omega arith)
-some_has name (l ∷ ls) zero x h s e = let e2 : is_of name (label_seen l) ≡ true = rw s at e in rw e2 refl
-some_has name (l ∷ ls) (suc i) x h s e = rw (some_has name ls i x (omega arith) s e) (or_true (is_of name (label_seen l)))
+some_has name (l ∷ ls) zero x h s e = let e2 : is_label_named name (label_seen l) ≡ true = rw s at e in rw e2 refl
+some_has name (l ∷ ls) (suc i) x h s e = rw (some_has name ls i x (omega arith) s e) (or_true (is_label_named name (label_seen l)))
 
 -- the last statement that has the label is used
 pub moved : (name : Name) (items : List LabeledScope) (i : ℕ) (x : LabeledScope) → i < length items → x ≡ get_or items i x
-    → is_of name (label_seen x) ≡ true
-    → list_any (is_of name) (map label_seen (drop (suc i) items)) ≡ false
+    → is_label_named name (label_seen x) ≡ true
+    → list_any (is_label_named name) (map label_seen (drop (suc i) items)) ≡ false
     → map label_seen (set items i (record x { used = true })) ≡ innermost_used name (map label_seen items)
 moved name [] i x h s e n = absurd (omega arith)
-moved name (l ∷ ls) zero x h s e n = let e2 : is_of name (label_seen l) ≡ true = rw s at e in rw (s, n, e2) refl
+moved name (l ∷ ls) zero x h s e n = let e2 : is_label_named name (label_seen l) ≡ true = rw s at e in rw (s, n, e2) refl
 moved name (l ∷ ls) (suc i) x h s e n =
     rw (some_has name ls i x (omega arith) s e) (ap (λ rest. label_seen l ∷ rest) (moved name ls i x (omega arith) s e n))
 
@@ -91,6 +91,6 @@ pub parted : (items rest : List LabeledScope) (o : Option LabeledScope) (unused 
     → rest ≡ take (length items - 1) items
     → o ≡ slice_get items (length items - 1)
     → now ≡ unused ++ if_unused (option_map label_seen o)
-    → lists (map label_seen rest) now ≡ left (lists (map label_seen items) unused)
+    → lists (map label_seen rest) now ≡ label_left (lists (map label_seen items) unused)
 parted items rest o unused now taken last listed =
     rw (taken, listed, last, length-map, take-map, slice_get-map) refl

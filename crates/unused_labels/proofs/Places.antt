@@ -6,11 +6,11 @@ use Rattle.std.proofs.lemmas.Slice.Eq.{bytes_eq-Decides}
 use Rattle.semantic_syntax.proofs.SameTexts.{same_texts}
 use Rattle.unused_labels.specs.declared.open_labels.OpenLabel.{OpenLabel}
 use Rattle.unused_labels.specs.OpenNames.{next_or_first, last_place}
-use Rattle.unused_labels.specs.OpenPlaces.{Places, nowhere, with_place, names_of, AreKnown}
+use Rattle.unused_labels.specs.OpenPlaces.{Places, nowhere, with_place, label_names, PlacesAreKnown}
 
 -- one more label is open
-pub pushed : (f : Places) (n m : ℕ) (ls : List OpenLabel) (g h : Places) (l : OpenLabel) → AreKnown f n ls g → m ≡ n + length ls
-    → IsUtf8 l.name.now → l.outer ≡ g l.name.now → ((q : Bor (List ℕ)) → h q.now ≡ with_place g l.name.now m q.now) → AreKnown f n (ls ++ l ∷ []) h
+pub pushed : (f : Places) (n m : ℕ) (ls : List OpenLabel) (g h : Places) (l : OpenLabel) → PlacesAreKnown f n ls g → m ≡ n + length ls
+    → IsUtf8 l.name.now → l.outer ≡ g l.name.now → ((q : Bor (List ℕ)) → h q.now ≡ with_place g l.name.now m q.now) → PlacesAreKnown f n (ls ++ l ∷ []) h
 pushed f n m [] g h l k e u o w =
     let same : m ≡ n = omega (arith, e) in
     (u, (o ∙ k l.name, λ q. w q ∙ (λ i. cond (bytes_eq l.name.now q.now) (Some (same i)) (k q i))))
@@ -18,8 +18,8 @@ pushed f n m (x ∷ ls) g h l k e u o w =
     (k.0, (k.1.0, pushed (with_place f x.name.now n) (suc n) m ls g h l k.1.1 (omega (arith, e)) u o w))
 
 -- the innermost label is open no longer
-pub popped : (f : Places) (n : ℕ) (ls : List OpenLabel) (g h : Places) (l : OpenLabel) → AreKnown f n (ls ++ l ∷ []) g
-    → ((q : Bor (List ℕ)) → h q.now ≡ cond (bytes_eq l.name.now q.now) l.outer (g q.now)) → AreKnown f n ls h
+pub popped : (f : Places) (n : ℕ) (ls : List OpenLabel) (g h : Places) (l : OpenLabel) → PlacesAreKnown f n (ls ++ l ∷ []) g
+    → ((q : Bor (List ℕ)) → h q.now ≡ cond (bytes_eq l.name.now q.now) l.outer (g q.now)) → PlacesAreKnown f n ls h
 popped f n [] g h l k w = λ q. w q ∙ ap (cond (bytes_eq l.name.now q.now) l.outer) (k.1.1 q) ∙ by q (bytes_eq l.name.now q.now) refl
   where
     by : (q : Bor (List ℕ)) (b : Bool) → bytes_eq l.name.now q.now ≡ b → cond b l.outer (cond b (Some n) (f q.now)) ≡ f q.now
@@ -28,7 +28,7 @@ popped f n [] g h l k w = λ q. w q ∙ ap (cond (bytes_eq l.name.now q.now) l.o
 popped f n (x ∷ ls) g h l k w = (k.0, (k.1.0, popped (with_place f x.name.now n) (suc n) ls g h l k.1.1 w))
 
 -- it is the innermost of its name
-pub last_known : (f : Places) (n : ℕ) (ls : List OpenLabel) (g : Places) (l : OpenLabel) → AreKnown f n (ls ++ l ∷ []) g → g l.name.now ≡ Some (n + length ls)
+pub last_known : (f : Places) (n : ℕ) (ls : List OpenLabel) (g : Places) (l : OpenLabel) → PlacesAreKnown f n (ls ++ l ∷ []) g → g l.name.now ≡ Some (n + length ls)
 last_known f n [] g l k =
     let own : bytes_eq l.name.now l.name.now ≡ true = (bytes_eq-Decides l.name.now l.name.now).1 refl in
     let here : n ≡ n + length {A = OpenLabel} [] = omega arith in
@@ -43,11 +43,11 @@ behind n before (Some k) = Some (n + k)
 behind n before None = before
 
 -- the place of a name
-pub found_from : (f : Places) (n : ℕ) (ls : List OpenLabel) (g : Places) (q : Bor (List ℕ)) → AreKnown f n ls g → IsUtf8 q.now
-    → g q.now ≡ behind n (f q.now) (last_place (chars q.now) (names_of ls))
+pub found_from : (f : Places) (n : ℕ) (ls : List OpenLabel) (g : Places) (q : Bor (List ℕ)) → PlacesAreKnown f n ls g → IsUtf8 q.now
+    → g q.now ≡ behind n (f q.now) (last_place (chars q.now) (label_names ls))
 found_from f n [] g q k u = k q
 found_from f n (l ∷ ls) g q k u =
-    found_from (with_place f l.name.now n) (suc n) ls g q k.1.1 u ∙ by (last_place (chars q.now) (names_of ls))
+    found_from (with_place f l.name.now n) (suc n) ls g q k.1.1 u ∙ by (last_place (chars q.now) (label_names ls))
   where
     here : (b c : Bool) → b ≡ c → cond c (Some n) (f q.now) ≡ behind n (f q.now) (next_or_first None b)
     here true true e = ap (λ m. Some m) (omega arith)
@@ -63,5 +63,5 @@ from_none : (o : Option ℕ) → behind 0 None o ≡ o
 from_none (Some k) = ap (λ m. Some m) (omega arith)
 from_none None = refl
 
-pub found : (ls : List OpenLabel) (g : Places) (q : Bor (List ℕ)) → AreKnown nowhere 0 ls g → IsUtf8 q.now → g q.now ≡ last_place (chars q.now) (names_of ls)
-found ls g q k u = found_from nowhere 0 ls g q k u ∙ from_none (last_place (chars q.now) (names_of ls))
+pub found : (ls : List OpenLabel) (g : Places) (q : Bor (List ℕ)) → PlacesAreKnown nowhere 0 ls g → IsUtf8 q.now → g q.now ≡ last_place (chars q.now) (label_names ls)
+found ls g q k u = found_from nowhere 0 ls g q k u ∙ from_none (last_place (chars q.now) (label_names ls))

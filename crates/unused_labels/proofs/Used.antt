@@ -6,7 +6,7 @@ use Rattle.std.specs.Prelude.{bytes_eq}
 use Rattle.std.proofs.lemmas.Slice.Eq.{bytes_eq-Decides}
 use Rattle.semantic_syntax.proofs.Truth.{or_false}
 use Rattle.semantic_model.proofs.once.ListedUnder.{name_tells}
-use Rattle.unused_labels.specs.LabelStack.{Labelled, is_of, innermost_used, if_unused, left}
+use Rattle.unused_labels.specs.LabelStack.{Labelled, is_label_named, innermost_used, if_unused, label_left}
 use Rattle.unused_labels.specs.Labelling.{used_where}
 use Rattle.unused_labels.proofs.Innermost.{lists, unmoved}
 
@@ -22,16 +22,16 @@ not_used false false = refl
 -- where the test holds of no label nothing changes
 pub used_nowhere : (ls : List Labelled) → used_where (λ label. false) ls ≡ ls
 used_nowhere [] = refl
-used_nowhere (l ∷ ls) = λ i. marked l (not_used l.used (not (list_any (is_of l.name) ls)) i) ∷ used_nowhere ls i
+used_nowhere (l ∷ ls) = λ i. marked l (not_used l.used (not (list_any (is_label_named l.name) ls)) i) ∷ used_nowhere ls i
 
 -- tests that hold of the same labels
 pub used_alike : (s t : Name → Bool) (ls : List Labelled) → ((label : Name) → s label ≡ t label) → used_where s ls ≡ used_where t ls
 used_alike s t [] h = refl
-used_alike s t (l ∷ ls) h = λ i. marked l (l.used || (not (list_any (is_of l.name) ls) && h l.name i)) ∷ used_alike s t ls h i
+used_alike s t (l ∷ ls) h = λ i. marked l (l.used || (not (list_any (is_label_named l.name) ls) && h l.name i)) ∷ used_alike s t ls h i
 
-pub labels_stay : (name : Name) (test : Name → Bool) (ls : List Labelled) → list_any (is_of name) (used_where test ls) ≡ list_any (is_of name) ls
+pub labels_stay : (name : Name) (test : Name → Bool) (ls : List Labelled) → list_any (is_label_named name) (used_where test ls) ≡ list_any (is_label_named name) ls
 labels_stay name test [] = refl
-labels_stay name test (l ∷ ls) = ap (λ b. is_of name l || b) (labels_stay name test ls)
+labels_stay name test (l ∷ ls) = ap (λ b. is_label_named name l || b) (labels_stay name test ls)
 
 both_uses : (u x s t : Bool) → ((u || (x && s)) || (x && t)) ≡ (u || (x && (s || t)))
 both_uses true x s t = refl
@@ -42,9 +42,9 @@ both_uses false false s t = refl
 pub used_twice : (s t : Name → Bool) (ls : List Labelled) → used_where t (used_where s ls) ≡ used_where (λ label. s label || t label) ls
 used_twice s t [] = refl
 used_twice s t (l ∷ ls) =
-    let x = not (list_any (is_of l.name) ls) in
+    let x = not (list_any (is_label_named l.name) ls) in
     let u = l.used || (x && s l.name) in
-    let first : (u || (not (list_any (is_of l.name) (used_where s ls)) && t l.name)) ≡ (l.used || (x && (s l.name || t l.name))) =
+    let first : (u || (not (list_any (is_label_named l.name) (used_where s ls)) && t l.name)) ≡ (l.used || (x && (s l.name || t l.name))) =
     ap (λ b. u || (not b && t l.name)) (labels_stay l.name s ls) ∙ both_uses l.used x (s l.name) (t l.name) in
     λ i. marked l (first i) ∷ used_twice s t ls i
 
@@ -66,9 +66,9 @@ pub used_inside : (test : Name → Bool) (ls : List Labelled) (inner : Labelled)
     → used_where test (ls ++ inner ∷ []) ≡ used_where (λ label. not (bytes_eq inner.name label) && test label) ls ++ marked inner (inner.used || test inner.name) ∷ []
 used_inside test [] inner = refl
 used_inside test (l ∷ ls) inner =
-    let same : (l.used || (not (list_any (is_of l.name) (ls ++ inner ∷ [])) && test l.name)) ≡ (l.used || (not (list_any (is_of l.name) ls) && (not (bytes_eq inner.name l.name) && test l.name))) =
-    ap (λ b. l.used || (not b && test l.name)) (list_any_push (is_of l.name) ls inner)
-    ∙ ap (λ b. l.used || b) (not_inner (list_any (is_of l.name) ls) (bytes_eq inner.name l.name) (test l.name)) in
+    let same : (l.used || (not (list_any (is_label_named l.name) (ls ++ inner ∷ [])) && test l.name)) ≡ (l.used || (not (list_any (is_label_named l.name) ls) && (not (bytes_eq inner.name l.name) && test l.name))) =
+    ap (λ b. l.used || (not b && test l.name)) (list_any_push (is_label_named l.name) ls inner)
+    ∙ ap (λ b. l.used || b) (not_inner (list_any (is_label_named l.name) ls) (bytes_eq inner.name l.name) (test l.name)) in
     λ i. marked l (same i) ∷ used_inside test ls inner i
 
 or_true : (u : Bool) → true ≡ (u || true)
@@ -84,7 +84,7 @@ used_by_jump name (l ∷ ls) = elim (name_tells l.name name) [ inl q ↦ own (us
     rest = used_where (λ label. bytes_eq name label) ls
 
     a : Bool
-    a = list_any (is_of name) ls
+    a = list_any (is_label_named name) ls
 
     inner : List Labelled
     inner = innermost_used name ls
@@ -100,26 +100,26 @@ used_by_jump name (l ∷ ls) = elim (name_tells l.name name) [ inl q ↦ own (us
     there true none = refl
     there false none = ap (λ xs. l ∷ xs) (sym (none refl))
 
-    own : inner ≡ rest → bytes_eq l.name name ≡ true → l.name ≡ name → cond a (l ∷ inner) (cond (is_of name l) (marked l true) l ∷ ls) ≡ now (list_any (is_of l.name) ls) (bytes_eq name l.name)
+    own : inner ≡ rest → bytes_eq l.name name ≡ true → l.name ≡ name → cond a (l ∷ inner) (cond (is_label_named name l) (marked l true) l ∷ ls) ≡ now (list_any (is_label_named l.name) ls) (bytes_eq name l.name)
     own later e same =
         ap (λ b. cond a (l ∷ inner) (cond b (marked l true) l ∷ ls)) e
         ∙ here a (λ h. unmoved name ls h)
         ∙ ap (λ xs. marked l (l.used || (not a && true)) ∷ xs) later
         ∙ ap (now a) (sym ((bytes_eq-Decides name l.name).1 (sym same)))
-        ∙ ap (λ x. now (list_any (is_of x) ls) (bytes_eq name l.name)) (sym same)
+        ∙ ap (λ x. now (list_any (is_label_named x) ls) (bytes_eq name l.name)) (sym same)
 
     apart : (l.name ≡ name → ⊥) → bytes_eq name l.name ≡ false
     apart h = elim (name_tells name l.name) [ inl q ↦ absurd (h (sym q.1)) | inr q ↦ q.0 ]
 
-    other : inner ≡ rest → bytes_eq l.name name ≡ false → (l.name ≡ name → ⊥) → cond a (l ∷ inner) (cond (is_of name l) (marked l true) l ∷ ls) ≡ now (list_any (is_of l.name) ls) (bytes_eq name l.name)
+    other : inner ≡ rest → bytes_eq l.name name ≡ false → (l.name ≡ name → ⊥) → cond a (l ∷ inner) (cond (is_label_named name l) (marked l true) l ∷ ls) ≡ now (list_any (is_label_named l.name) ls) (bytes_eq name l.name)
     other later e h =
         ap (λ b. cond a (l ∷ inner) (cond b (marked l true) l ∷ ls)) e
         ∙ there a (λ n. unmoved name ls n)
-        ∙ (λ i. marked l (sym (not_used l.used (not (list_any (is_of l.name) ls))) i) ∷ later i)
-        ∙ ap (now (list_any (is_of l.name) ls)) (sym (apart h))
+        ∙ (λ i. marked l (sym (not_used l.used (not (list_any (is_label_named l.name) ls))) i) ∷ later i)
+        ∙ ap (now (list_any (is_label_named l.name) ls)) (sym (apart h))
 
 -- the innermost statement is left
-pub left_last : (ls : List Labelled) (l : Labelled) (unused : List ℕ) → left (lists (ls ++ l ∷ []) unused) ≡ lists ls (unused ++ if_unused (Some l))
+pub left_last : (ls : List Labelled) (l : Labelled) (unused : List ℕ) → label_left (lists (ls ++ l ∷ []) unused) ≡ lists ls (unused ++ if_unused (Some l))
 left_last ls l unused =
     let count : length (ls ++ l ∷ []) - 1 ≡ length ls = ap (λ n. n - 1) (length-append ls (l ∷ [])) ∙ omega arith in
     ap (λ n. lists (take n (ls ++ l ∷ [])) (unused ++ if_unused (slice_get (ls ++ l ∷ []) n))) count

@@ -10,7 +10,7 @@ use Rattle.semantic_tree.specs.Forest.{Forest, nothing, tree}
 use Rattle.semantic_tree.specs.declared.node.Node.{Node}
 use Rattle.semantic_tree.specs.Views.{has_text, holds}
 use Rattle.semantic_model.specs.Label.{label_of, is_jump, is_labelled, is_named_in, is_used, unused_in, unused_labels}
-use Rattle.unused_labels.specs.LabelStack.{Labelled, LabelLists, no_labels, entered, left}
+use Rattle.unused_labels.specs.LabelStack.{Labelled, LabelLists, no_labels, label_entered, label_left}
 use Rattle.unused_labels.specs.Labelling.{label_met, node_entered, walked_below, used_where, used_by}
 use Rattle.unused_labels.proofs.Innermost.{lists}
 use Rattle.unused_labels.proofs.Used.{marked, used_nowhere, used_alike, used_twice, used_inside, used_by_jump, left_last}
@@ -43,10 +43,10 @@ flipped false id = refl
 
 -- a node and what is below it
 node_walked : (below : Forest) → Finds below → (jump labelled : Bool) → (jump ≡ true → labelled ≡ false) → (o : Option Node) (id : ℕ) (w : LabelLists)
-    → (let inner : LabelLists = walked_below below (label_met jump labelled o id w) in cond (labelled && is_some o) (left inner) inner)
+    → (let inner : LabelLists = walked_below below (label_met jump labelled o id w) in cond (labelled && is_some o) (label_left inner) inner)
     ≡ lists (used_where (named_at jump labelled o below) w.around) (w.unused ++ (unused_in below ++ own_unused labelled o id below))
 node_walked below ih jump labelled apart None id w =
-    ap (λ c. cond c (left (walked_below below w)) (walked_below below w)) (and_false labelled)
+    ap (λ c. cond c (label_left (walked_below below w)) (walked_below below w)) (and_false labelled)
     ∙ ih w
     ∙ ap (λ xs. lists xs (w.unused ++ unused_in below)) (used_alike (λ label. is_named_in label below) (named_at jump labelled None below) w.around (λ label. without jump labelled (is_named_in label below)))
     ∙ ap (λ us. lists (used_where (named_at jump labelled None below) w.around) (w.unused ++ us)) (sym (append-nil (unused_in below)) ∙ ap (λ c. unused_in below ++ cond c (id ∷ []) []) (sym (and_false labelled)))
@@ -59,7 +59,7 @@ node_walked below ih true false apart (Some label) id w =
 node_walked below ih false true apart (Some label) id w =
     let inner : Labelled = record { name = label.text; used = false; node = id } in
     let used : Bool = is_named_in label.text below in
-    ap left (ih (entered w label.text id) ∙ ap (λ xs. lists xs (w.unused ++ unused_in below)) (used_inside (λ name. is_named_in name below) w.around inner))
+    ap label_left (ih (label_entered w label.text id) ∙ ap (λ xs. lists xs (w.unused ++ unused_in below)) (used_inside (λ name. is_named_in name below) w.around inner))
     ∙ left_last (used_where (named_at false true (Some label) below) w.around) (marked inner used) (w.unused ++ unused_in below)
     ∙ ap (lists (used_where (named_at false true (Some label) below) w.around))
     (append_assoc w.unused (unused_in below) (cond used [] (id ∷ [])) ∙ ap (λ us. w.unused ++ (unused_in below ++ us)) (flipped used id))

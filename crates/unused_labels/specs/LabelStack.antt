@@ -27,17 +27,17 @@ abbrev pub no_labels : LabelLists
 no_labels = record { around = []; unused = [] }
 
 -- the walk comes to a labelled statement
-abbrev pub entered : LabelLists → Name → ℕ → LabelLists
-entered w name node = record w { around = w.around ++ record { name = name; used = false; node = node } ∷ [] }
+abbrev pub label_entered : LabelLists → Name → ℕ → LabelLists
+label_entered w name node = record w { around = w.around ++ record { name = name; used = false; node = node } ∷ [] }
 
-abbrev pub is_of : Name → Labelled → Bool
-is_of name l = bytes_eq l.name name
+abbrev pub is_label_named : Name → Labelled → Bool
+is_label_named name l = bytes_eq l.name name
 
 -- the innermost of the name is used
 abbrev pub innermost_used : Name → List Labelled → List Labelled
 innermost_used name [] = []
 innermost_used name (l ∷ ls) =
-    cond (list_any (is_of name) ls) (l ∷ innermost_used name ls) (cond (is_of name l) (record l { used = true }) l ∷ ls)
+    cond (list_any (is_label_named name) ls) (l ∷ innermost_used name ls) (cond (is_label_named name l) (record l { used = true }) l ∷ ls)
 
 -- a jump names the label
 abbrev pub jumped : LabelLists → Name → LabelLists
@@ -48,8 +48,8 @@ if_unused None = []
 if_unused (Some l) = cond l.used [] (l.node ∷ [])
 
 -- the walk leaves the innermost labelled statement
-abbrev pub left : LabelLists → LabelLists
-left w = record {
+abbrev pub label_left : LabelLists → LabelLists
+label_left w = record {
   around = take (length w.around - 1) w.around;
   unused = w.unused ++ if_unused (slice_get w.around (length w.around - 1));
 }

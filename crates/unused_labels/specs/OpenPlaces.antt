@@ -7,8 +7,8 @@ use Rattle.std.specs.Str.{chars, bytes_eq, IsUtf8}
 use Rattle.semantic_syntax.specs.Tables.{Name}
 use Rattle.unused_labels.specs.declared.open_labels.OpenLabel.{OpenLabel}
 
-abbrev pub names_of : List OpenLabel → List Name
-names_of labels = map (λ l. chars l.name.now) labels
+abbrev pub label_names : List OpenLabel → List Name
+label_names labels = map (λ l. chars l.name.now) labels
 
 -- where the innermost label of a name stands, by the bytes of the name
 abbrev pub Places : Type 0
@@ -22,10 +22,10 @@ abbrev pub with_place : Places → List ℕ → ℕ → Places
 with_place places name place other = cond (bytes_eq name other) (Some place) (places other)
 
 -- the places that a map has
-abbrev pub place_in : List (Bor (List ℕ) × ℕ) → Places
-place_in entries name = lookup (λ k. bytes_eq name k.now) entries
+abbrev pub places_of_map : List (Bor (List ℕ) × ℕ) → Places
+places_of_map entries name = lookup (λ k. bytes_eq name k.now) entries
 
 -- with these labels from a place on, further inward than those of which places are known, the places are the last ones
-abbrev pub AreKnown : Places → ℕ → List OpenLabel → Places → Type 0
-AreKnown places n [] last = (name : Bor (List ℕ)) → last name.now ≡ places name.now
-AreKnown places n (l ∷ ls) last = IsUtf8 l.name.now × ((l.outer ≡ places l.name.now) × AreKnown (with_place places l.name.now n) (suc n) ls last)
+abbrev pub PlacesAreKnown : Places → ℕ → List OpenLabel → Places → Type 0
+PlacesAreKnown places n [] last = (name : Bor (List ℕ)) → last name.now ≡ places name.now
+PlacesAreKnown places n (l ∷ ls) last = IsUtf8 l.name.now × ((l.outer ≡ places l.name.now) × PlacesAreKnown (with_place places l.name.now n) (suc n) ls last)

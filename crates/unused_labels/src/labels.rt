@@ -32,7 +32,7 @@ pub struct UnusedLabels<'a> {
 }
 
 impl<'a> UnusedLabels<'a> {
-    ghost use Rattle.unused_labels.specs.LabelStack.{labels_seen, no_labels, entered, jumped, left};
+    ghost use Rattle.unused_labels.specs.LabelStack.{labels_seen, no_labels, label_entered, jumped, label_left};
 
     /// The walk has come to no label yet.
     pub fn new(alloc: Global) -> Self
@@ -49,7 +49,7 @@ impl<'a> UnusedLabels<'a> {
     pub fn add(&mut self, name: Ident<'a>, node: NodeId) -> Result<(), AllocError>
         ensures ok { OnOk result
             (labels_seen self.new
-            ≡ entered (labels_seen self.old) (chars name.entry.text.now) node) }
+            ≡ label_entered (labels_seen self.old) (chars name.entry.text.now) node) }
         ensures err { OnErr result (labels_seen self.new ≡ labels_seen self.old) }
     {
         let label = LabeledScope {
@@ -75,7 +75,7 @@ impl<'a> UnusedLabels<'a> {
     /// Leaves the innermost labelled statement, if there is one, and lists it if no jump names it. After want of memory
     /// all is as before.
     pub fn mark_unused(&mut self) -> Result<(), AllocError>
-        ensures ok { OnOk result (labels_seen self.new ≡ left (labels_seen self.old)) }
+        ensures ok { OnOk result (labels_seen self.new ≡ label_left (labels_seen self.old)) }
         ensures err { OnErr result (labels_seen self.new ≡ labels_seen self.old) }
     {
         if let Some(label) = self.stack.last() {

@@ -32,13 +32,13 @@ pub(crate) struct OpenLabels<'a> {
 impl<'a> Model for OpenLabels<'a> {
     ghost use Rattle.std.specs.Prelude.{List};
     ghost use Rattle.semantic_syntax.specs.Tables.{Name};
-    ghost use Rattle.unused_labels.specs.OpenPlaces.{AreKnown, names_of, nowhere, place_in};
+    ghost use Rattle.unused_labels.specs.OpenPlaces.{PlacesAreKnown, label_names, nowhere, places_of_map};
 
     ghost Value = { List Name };
 
-    ghost view = { λ o. names_of o.labels.items };
+    ghost view = { λ o. label_names o.labels.items };
 
-    ghost invariant = { λ o. AreKnown nowhere 0 o.labels.items (place_in o.innermost.entries) };
+    ghost invariant = { λ o. PlacesAreKnown nowhere 0 o.labels.items (places_of_map o.innermost.entries) };
 }
 
 /// A text is UTF-8.

@@ -49,13 +49,13 @@ note_symbol w y d = record w {
   tables = cond d.is_pure (pure_with w.tables y) w.tables;
 }
 
-abbrev pub symbol_by : WalkState → ℕ → Naming → Option ℕ → WalkState
-symbol_by w s d None = make w s d
-symbol_by w s d (Some y) = unite w y d
+abbrev pub with_found_symbol : WalkState → ℕ → Naming → Option ℕ → WalkState
+with_found_symbol w s d None = make w s d
+with_found_symbol w s d (Some y) = unite w y d
 
 -- what is found in the scope is declared once more, else a new symbol is bound
 abbrev pub with_symbol_in : WalkState → ℕ → Naming → WalkState
-with_symbol_in w s d = symbol_by w s d (found w s d.name)
+with_symbol_in w s d = with_found_symbol w s d (found w s d.name)
 
 -- the symbol that the name has then: the one that is found, else the new one
 abbrev pub symbol_in : WalkState → ℕ → Naming → ℕ

@@ -9,8 +9,8 @@ use Rattle.semantic_syntax.specs.Tables.{Name, Scope}
 use Rattle.semantic_syntax.specs.Reading.{scope_of}
 use Rattle.semantic_syntax.specs.Writing.{with_scope}
 use Rattle.semantic_tree.specs.Views.{is}
-use Rattle.semantic_model.specs.Place.{Place, OpenScope, at}
-use Rattle.semantic_model.specs.Cursor.{way_of}
+use Rattle.semantic_model.specs.Place.{Place, OpenScope, scope_of_place}
+use Rattle.semantic_model.specs.Cursor.{way_or_read}
 use Rattle.semantic_model.specs.TablesOf.{is_direct_eval}
 use Rattle.walk_model.specs.WalkState.{WalkState}
 
@@ -23,7 +23,7 @@ add_eval w s = record w { tables = with_scope w.tables s (with_eval (scope_of w.
 
 -- a node that is a call of `eval` is noted
 abbrev pub note_eval : WalkState → Place → WalkState
-note_eval w p = cond (is_direct_eval p.node) (add_eval w (at p)) w
+note_eval w p = cond (is_direct_eval p.node) (add_eval w (scope_of_place p)) w
 
 -- the node is a reference in the scope, in the way
 abbrev pub with_reference_at : WalkState → (node scope way : ℕ) → WalkState
@@ -41,15 +41,15 @@ refer_to w node name s way = record (with_reference_at w node s way) {
 }
 
 abbrev pub refer : WalkState → Place → WalkState
-refer w p = refer_to w p.node.node_id p.node.text (at p) (way_of p.cursor)
+refer w p = refer_to w p.node.node_id p.node.text (scope_of_place p) (way_or_read p.cursor)
 
 -- a node that is a reference is noted, and waits where it stands
 abbrev pub note_reference : WalkState → Place → WalkState
 note_reference w p = cond (is kind.IdentifierReference p.node) (refer w p) w
 
-abbrev pub number_of : List OpenScope → Option ℕ
-number_of [] = None
-number_of (s ∷ ss) = Some s.number
+abbrev pub innermost_number : List OpenScope → Option ℕ
+innermost_number [] = None
+innermost_number (s ∷ ss) = Some s.number
 
 -- the node opens a scope with the number and the flags, in another one or in none
 abbrev pub open_in : WalkState → Option ℕ → (node number flags : ℕ) → WalkState
@@ -63,7 +63,7 @@ open_in w parent node number flags = record w {
 
 -- the scope of the place opens
 abbrev pub open_scope : WalkState → Place → OpenScope → WalkState
-open_scope w p s = open_in w (number_of p.chain) s.opener s.number s.flags
+open_scope w p s = open_in w (innermost_number p.chain) s.opener s.number s.flags
 
 -- a call of `eval` in the scope is one in the scope around it, too
 abbrev pub close_scope : WalkState → ℕ → WalkState

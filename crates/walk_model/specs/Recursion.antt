@@ -8,7 +8,7 @@ use Rattle.walk_model.specs.Waits.{IsSound, HoldsAt}
 use Rattle.walk_model.specs.Seated.{IsSeated, IsSeat}
 
 -- so many scopes are made, and those of the place are shown
-pub record StandsAt (w : WalkState) (p : Place) (own : Option OpenScope) (n : ℕ) : Type 0 where
+pub record WalkStandsAt (w : WalkState) (p : Place) (own : Option OpenScope) (n : ℕ) : Type 0 where
   pub count : length w.tables.scopes ≡ n
   pub chain : ShowsChain w.tables p.chain
   pub shown : ShowsOwn w.tables p own
@@ -16,7 +16,7 @@ pub record StandsAt (w : WalkState) (p : Place) (own : Option OpenScope) (n : �
 -- before a node below the root
 pub record IsReady (w : WalkState) (p : Place) (n : ℕ) : Type 0 where
   pub some : 0 < n
-  pub stands : StandsAt w p None n
+  pub stands : WalkStandsAt w p None n
   pub sound : IsSound w
   pub seat : IsSeat p n
 
@@ -28,7 +28,7 @@ OpensInside p (Some s) = Unit {0}
 -- between two children of a place, with those that are left
 pub record IsBetween (w : WalkState) (p : Place) (own : Option OpenScope) (n cursor start : ℕ) (f : Forest) : Type 0 where
   pub some : 0 < n
-  pub stands : StandsAt w p own n
+  pub stands : WalkStandsAt w p own n
   pub holds : HoldsAt w own start
   pub seated : IsSeated p own n cursor f
   pub inside : OpensInside p own

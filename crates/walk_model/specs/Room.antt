@@ -12,8 +12,8 @@ opened_by (opening p s) = 1
 opened_by _ = 0
 
 -- how many names it declares
-abbrev pub declared_by : Step → ℕ
-declared_by step = length (declared_at step)
+abbrev pub names_declared_by : Step → ℕ
+names_declared_by step = length (declared_at step)
 
 -- whether it enters a reference
 abbrev pub referred_by : Step → ℕ
@@ -32,5 +32,5 @@ id_count = 4294967295
 -- each scope, symbol and reference has an id, also of those that the steps still make
 pub record HasRoom (t : Tables) (steps : List Step) : Type 0 where
   pub scopes : length t.scopes + in_all opened_by steps < id_count
-  pub symbols : length t.symbols + in_all declared_by steps < id_count
+  pub symbols : length t.symbols + in_all names_declared_by steps < id_count
   pub references : length t.references + in_all referred_by steps < id_count

@@ -9,7 +9,7 @@ use Rattle.semantic_syntax.specs.Reading.{scope_of}
 use Rattle.semantic_model.specs.Place.{Place, OpenScope}
 use Rattle.semantic_model.specs.Declaration.{first_with}
 use Rattle.semantic_model.specs.Binder.{is_var}
-use Rattle.walk_model.specs.Opens.{number_of}
+use Rattle.walk_model.specs.Opens.{innermost_number}
 
 -- flags other than `DirectEval`
 abbrev pub IsOther : ℕ → Type 0
@@ -18,11 +18,11 @@ IsOther bits = bit_and flag.DirectEval.bits bits ≡ 0
 -- the scope has a row, with its parent, node and flags; `DirectEval` may be among them
 pub record ShowsScope (t : Tables) (s : OpenScope) (around : List OpenScope) : Type 0 where
   pub within : s.number < length t.scopes
-  pub parent : (scope_of t s.number).parent ≡ number_of around
+  pub parent : (scope_of t s.number).parent ≡ innermost_number around
   pub node : (scope_of t s.number).node ≡ s.opener
   pub flags : (bits : ℕ) → IsOther bits → meets (scope_of t s.number).flags.bits bits ≡ meets s.flags bits
   -- the scope around it has a smaller number
-  pub falls : IfSome (number_of around) (λ p. p < s.number)
+  pub falls : IfSome (innermost_number around) (λ p. p < s.number)
 
 abbrev pub ShowsChain : Tables → List OpenScope → Type 0
 ShowsChain t [] = Unit {0}

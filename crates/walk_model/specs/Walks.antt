@@ -1,6 +1,6 @@
 -- What each step of the walk does, and the whole walk.
 use Rattle.std.specs.Prelude.{ℕ, List, [], ◌∷◌, map}
-use Rattle.semantic_syntax.specs.Writing.{taken_over}
+use Rattle.semantic_syntax.specs.Writing.{bindings_taken_over}
 use Rattle.semantic_tree.specs.Tree.{Tree}
 use Rattle.semantic_model.specs.Place.{OpenScope}
 use Rattle.semantic_model.specs.Declaration.{How, plain, hoisted, moved, caught, Declaration, stands_in}
@@ -24,7 +24,7 @@ declare_by caught w d = declare_anew w d.route.target.number d.naming
 -- what one event does
 abbrev pub act : WalkState → Event → WalkState
 act w (declares d) = declare_by d.how w d
-act w (takes_over c b) = record w { tables = taken_over w.tables c b }
+act w (takes_over c b) = record w { tables = bindings_taken_over w.tables c b }
 act w (ends_header c) = end_header w c
 
 abbrev pub act_all : WalkState → List Event → WalkState

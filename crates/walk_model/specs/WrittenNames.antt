@@ -20,12 +20,12 @@ use Rattle.semantic_model.specs.Declaration.{Declaration, scope_it_stands_in}
 use Rattle.semantic_model.specs.Event.{counts_past}
 
 -- a name, declared in the scope that a node opens
-pub record Written : Type 0 where
+pub record WrittenName : Type 0 where
   pub opener : ℕ
   pub name : Name
 
 -- whether the name is among them, in the scope that the node opens
-abbrev pub is_written : List Written → ℕ → Name → Bool
+abbrev pub is_written : List WrittenName → ℕ → Name → Bool
 is_written ws opener name = list_any (λ w. opener == w.opener && bytes_eq w.name name) ws
 
 -- the nodes that open the innermost scope and, where a parameter stands, the scope around it
@@ -53,30 +53,30 @@ is_lexical None = false
 is_lexical (Some declaration) = not (is_with_text kind.VariableDeclaration (codes "var") declaration)
 
 -- whether a node under a parent declares lexical variables, a class, a function, or the names of a catch pattern
-abbrev pub counts_as : AstType → Node → Option Node → Bool
-counts_as kind.VariableDeclarator node parent = is_lexical parent
-counts_as kind.Function node parent = true
-counts_as kind.Class node parent = true
-counts_as kind.CatchParameter node parent = holds (λ p. not (is kind.BindingIdentifier p)) (child_of role.Pattern node)
-counts_as _ node parent = false
+abbrev pub declares_lexically : AstType → Node → Option Node → Bool
+declares_lexically kind.VariableDeclarator node parent = is_lexical parent
+declares_lexically kind.Function node parent = true
+declares_lexically kind.Class node parent = true
+declares_lexically kind.CatchParameter node parent = holds (λ p. not (is kind.BindingIdentifier p)) (child_of role.Pattern node)
+declares_lexically _ node parent = false
 
 -- the names of the nodes, in the scope of one opener
-abbrev pub names_in : ℕ → List Node → List Written
+abbrev pub names_in : ℕ → List Node → List WrittenName
 names_in opener nodes = map (λ node. record { opener = opener; name = node.text }) nodes
 
 -- what a node declares
-abbrev pub written_by : Node → Option Node → Openers → List Written
-written_by node parent o = cond (counts_as node.kind node parent) (names_in (opener_of_names node o) (bound_names node)) []
+abbrev pub written_by : Node → Option Node → Openers → List WrittenName
+written_by node parent o = cond (declares_lexically node.kind node parent) (names_in (opener_of_names node o) (bound_names node)) []
 
 -- what the nodes below a node declare
-abbrev pub written_below : Node → Openers → Forest → List Written
+abbrev pub written_below : Node → Openers → Forest → List WrittenName
 written_below parent o nothing = []
 written_below parent o (tree r k span text marks below id after) =
     let node : Node = record { kind = k; span = span; text = text; marks = marks; children = below; node_id = id } in
     written_by node (Some parent) (openers_at parent r o) ++ written_below node (openers_at parent r o) below ++ written_below parent o after
 
 -- what a node and those below it declare
-abbrev pub written_in : Node → Option Node → Openers → List Written
+abbrev pub written_in : Node → Option Node → Openers → List WrittenName
 written_in node parent o = written_by node parent o ++ written_below node o node.children
 
 -- whether functions in blocks move: in sloppy JavaScript alone
@@ -84,7 +84,7 @@ abbrev pub is_sloppy : SourceType → Bool
 is_sloppy source_type = not (is_typescript source_type) && not (is_module source_type)
 
 -- what a program declares
-abbrev pub names_written : Tree → List Written
+abbrev pub names_written : Tree → List WrittenName
 names_written program = written_in program.root None (record { innermost = 0; around = 0 })
 
 -- whether one of the name that counts stands in the scope that the node opens

@@ -11,7 +11,7 @@ ghost use Rattle.semantic_model.specs.TablesOf.{tables_of};
 ghost use Rattle.walk_model.specs.WalkState.{nothing_made};
 ghost use Rattle.walk_model.specs.Walks.{after_all};
 ghost use Rattle.semantic_tree.specs.KindCounts.{how_many};
-ghost use Rattle.walk_model.specs.Counted.{is_symbol, is_reference};
+ghost use Rattle.walk_model.specs.Counted.{declares_symbol, is_reference};
 ghost use Rattle.walk_model.specs.Room.{HasRoom};
 
 /// The tables of a program have a scope for each node that opens one, a reference for each identifier reference, and no
@@ -22,7 +22,7 @@ pub fn tables_are_counted()
     ensures references { (p : Tree)
         → length (tables_of p).references ≡ how_many is_reference (single role.Root p.root) }
     ensures symbols { (p : Tree) → first_fault p ≡ None → IsNumbered p.root
-        → length (tables_of p).symbols ≤ how_many is_symbol (single role.Root p.root) }
+        → length (tables_of p).symbols ≤ how_many declares_symbol (single role.Root p.root) }
 {}
 
 /// Ids never run out. At each place of the walk over a program there is an id for each scope, symbol and reference that

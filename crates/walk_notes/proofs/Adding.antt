@@ -14,38 +14,38 @@ use Rattle.semantic_syntax.specs.Tables.{Name}
 use Rattle.scoping_rows.specs.Names.{name_at, IsUnknown, IsNumberOf, IsInterned}
 use Rattle.semantic_tree.specs.Children.{forest_of}
 use Rattle.semantic_tree.specs.declared.node.Node.{Node}
-use Rattle.walk_model.specs.WrittenNames.{Openers, Written, is_written, openers_at, written_below, written_in}
+use Rattle.walk_model.specs.WrittenNames.{Openers, WrittenName, is_written, openers_at, written_below, written_in}
 use Rattle.walk_notes.specs.WrittenNames.{Adds, written_of}
 use Rattle.std.proofs.Math.ListN.{drop_of_length-le}
 use Rattle.semantic_syntax.proofs.Truth.{or_assoc, or_false, drop_here}
 
-pub written-append : (xs ys : List Written) (n : ℕ) (x : Name) → is_written (xs ++ ys) n x ≡ (is_written xs n x || is_written ys n x)
+pub written-append : (xs ys : List WrittenName) (n : ℕ) (x : Name) → is_written (xs ++ ys) n x ≡ (is_written xs n x || is_written ys n x)
 written-append [] ys n x = refl
 written-append (w ∷ xs) ys n x =
     ap (λ b. (n == w.opener && bytes_eq w.name x) || b) (written-append xs ys n x)
     ∙ sym (or_assoc (n == w.opener && bytes_eq w.name x) (is_written xs n x) (is_written ys n x))
 
-pub adds-none : (ws : List Written) → Adds ws ws []
+pub adds-none : (ws : List WrittenName) → Adds ws ws []
 adds-none ws n x = sym (or_false (is_written ws n x))
 
-pub adds-both : (a b c xs ys : List Written) → Adds a b xs → Adds b c ys → Adds a c (xs ++ ys)
+pub adds-both : (a b c xs ys : List WrittenName) → Adds a b xs → Adds b c ys → Adds a c (xs ++ ys)
 adds-both a b c xs ys h k n x =
     k n x ∙ ap (λ o. o || is_written ys n x) (h n x) ∙ or_assoc (is_written a n x) (is_written xs n x) (is_written ys n x) ∙ ap (λ o. is_written a n x || o) (sym (written-append xs ys n x))
 
 -- with those that are left, all are added
-pub record Rests (now left start all : List Written) : Type 0 where
+pub record Rests (now left start all : List WrittenName) : Type 0 where
   pub same : (n : ℕ) (x : Name) → (is_written now n x || is_written left n x) ≡ (is_written start n x || is_written all n x)
 
-pub rests-start : (start all : List Written) → Rests start all start all
+pub rests-start : (start all : List WrittenName) → Rests start all start all
 rests-start start all = record { same = λ n x. refl }
 
-pub rests-step : (now then_ mine left start all : List Written) → Rests now (mine ++ left) start all → Adds now then_ mine → Rests then_ left start all
+pub rests-step : (now then_ mine left start all : List WrittenName) → Rests now (mine ++ left) start all → Adds now then_ mine → Rests then_ left start all
 rests-step now then_ mine left start all h k = record {
   same = λ n x. ap (λ o. o || is_written left n x) (k n x) ∙ or_assoc (is_written now n x) (is_written mine n x) (is_written left n x)
       ∙ ap (λ o. is_written now n x || o) (sym (written-append mine left n x)) ∙ h.same n x;
 }
 
-pub rests-end : (now start all : List Written) → Rests now [] start all → Adds start now all
+pub rests-end : (now start all : List WrittenName) → Rests now [] start all → Adds start now all
 rests-end now start all h n x = sym (or_false (is_written now n x)) ∙ h.same n x
 
 pub written-turn : (parent : Node) (o : Openers) (items : List (Role × Node)) (i : ℕ) (child : Role × Node) → i < length items → child ≡ get_or items i child
@@ -171,11 +171,11 @@ numbered-one names now name opener number keys then_ fresh h i p = go fresh p
     go false q = rw q grown
 
 -- nothing is collected where no function moves
-pub none-move : (ws : List Written) (sloppy : Bool) → sloppy ≡ false → (n : ℕ) (x : Name) → is_written [] n x ≡ (sloppy && is_written ws n x)
+pub none-move : (ws : List WrittenName) (sloppy : Bool) → sloppy ≡ false → (n : ℕ) (x : Name) → is_written [] n x ≡ (sloppy && is_written ws n x)
 none-move ws true h n x = cc
 none-move ws false h n x = refl
 
 -- and all where they do
-pub all-move : (now ws : List Written) (sloppy : Bool) → sloppy ≡ true → Adds [] now ws → (n : ℕ) (x : Name) → is_written now n x ≡ (sloppy && is_written ws n x)
+pub all-move : (now ws : List WrittenName) (sloppy : Bool) → sloppy ≡ true → Adds [] now ws → (n : ℕ) (x : Name) → is_written now n x ≡ (sloppy && is_written ws n x)
 all-move now ws true h a n x = a n x
 all-move now ws false h a n x = cc

@@ -9,7 +9,7 @@ use Rattle.semantic_model.specs.Label.{is_labelled, label_of}
 use Rattle.class_table.specs.Building.{with_body, with_use_under, popped}
 use Rattle.class_table.specs.NotedSteps.{entered_under}
 use Rattle.class_table.specs.declared.builder.ClassTableBuilder.{ClassTableBuilder}
-use Rattle.unused_labels.specs.LabelStack.{LabelLists, left}
+use Rattle.unused_labels.specs.LabelStack.{LabelLists, label_left}
 use Rattle.unused_labels.specs.Labelling.{node_entered}
 use Rattle.unused_labels.proofs.Walked.{others_met}
 use Rattle.walk_notes.specs.NoteLists.{NoteLists, noting, leaving, has_label_kind, is_noted, is_noted_behind}
@@ -55,7 +55,7 @@ enters_nothing above here x h =
 pub leaves_nothing : (here : Node) (x : NoteLists) → is_noted_behind here.kind ≡ false → leaving here x ≡ x
 leaves_nothing here x h = λ i. record {
   classes = cond ((or_parts (is_labelled here.kind) (same_kind here.kind kind.Class) h).1 i) (popped x.classes) x.classes;
-  labels = cond ((or_parts (is_labelled here.kind) (same_kind here.kind kind.Class) h).0 i && is_some (label_of here.children)) (left x.labels) x.labels;
+  labels = cond ((or_parts (is_labelled here.kind) (same_kind here.kind kind.Class) h).0 i && is_some (label_of here.children)) (label_left x.labels) x.labels;
 }
 
 pub ruleset unnoted = (labels_class_nothing, others_label_nothing)

@@ -8,7 +8,7 @@ use Rattle.semantic_model.specs.Class.{classes}
 use Rattle.semantic_model.specs.Label.{unused_labels}
 use Rattle.semantic_model.specs.Step.{root_place}
 use Rattle.class_table.specs.Lists.{no_classes}
-use Rattle.class_table.specs.Noted.{begun, left}
+use Rattle.class_table.specs.Noted.{begun_builder, class_left}
 use Rattle.class_table.specs.Told.{lists_told}
 use Rattle.class_table.specs.declared.builder.ClassTableBuilder.{ClassTableBuilder}
 use Rattle.class_table.proofs.Noting.{unnoted}
@@ -22,9 +22,9 @@ off true = refl
 off false = refl
 
 pub program_classes : (on : Bool) (p : Tree) → first_fault p ≡ None → (noted_over [] p.root (nothing_noted on)).classes.classes ≡ (if on then lists_told (classes p.root) else no_classes)
-program_classes true p h = ap (λ (b : ClassTableBuilder). b.classes) (sym (node_steps_note (root_place p) 0 begun) ∙ all_steps_note p h)
+program_classes true p h = ap (λ (b : ClassTableBuilder). b.classes) (sym (node_steps_note (root_place p) 0 begun_builder) ∙ all_steps_note p h)
 program_classes false p h =
-    ap (λ (b : ClassTableBuilder). (left p.root.kind b).classes) (unnoted p.root.children p.root.kind p.root.node_id (nothing_noted false).classes refl)
+    ap (λ (b : ClassTableBuilder). (class_left p.root.kind b).classes) (unnoted p.root.children p.root.kind p.root.node_id (nothing_noted false).classes refl)
     ∙ ap (λ (b : ClassTableBuilder). b.classes) (off (same_kind p.root.kind kind.Class))
 
 pub program_labels : (on : Bool) (p : Tree) → first_fault p ≡ None → (noted_over [] p.root (nothing_noted on)).labels ≡ record { around = []; unused = unused_labels p.root }

@@ -7,7 +7,7 @@ use Rattle.semantic_tree.specs.Forest.{Forest}
 use Rattle.semantic_tree.specs.declared.node.Node.{Node}
 use Rattle.semantic_model.specs.Label.{is_jump, is_labelled}
 use Rattle.class_table.specs.Lists.{no_classes}
-use Rattle.class_table.specs.Noted.{left, noted_below}
+use Rattle.class_table.specs.Noted.{class_left, noted_below}
 use Rattle.class_table.specs.NotedSteps.{entered_under}
 use Rattle.class_table.specs.declared.builder.ClassTableBuilder.{ClassTableBuilder}
 use Rattle.unused_labels.specs.LabelStack.{LabelLists, no_labels}
@@ -28,7 +28,7 @@ noting above here x = record { classes = entered_under above here x.classes; lab
 
 -- a node is left
 abbrev pub leaving : Node → NoteLists → NoteLists
-leaving here x = record { classes = left here.kind x.classes; labels = node_left here x.labels }
+leaving here x = record { classes = class_left here.kind x.classes; labels = node_left here x.labels }
 
 -- the nodes of a forest below the parent are walked
 abbrev pub noted_inside : Node → Forest → NoteLists → NoteLists

@@ -23,10 +23,10 @@ pub struct LazyNamesakes<'a> {
 impl<'a> Model for LazyNamesakes<'a> {
     ghost use Rattle.std.specs.Prelude.{List, IfSome};
     ghost use Rattle.std.specs.Coded.{codes};
-    ghost use Rattle.walk_model.specs.WrittenNames.{Written};
+    ghost use Rattle.walk_model.specs.WrittenNames.{WrittenName};
     ghost use Rattle.walk_notes.specs.WrittenNames.{barring, HoldsNames};
 
-    ghost Value = { List Written };
+    ghost Value = { List WrittenName };
 
     ghost coded = { Prim.hlevel (codes) };
 

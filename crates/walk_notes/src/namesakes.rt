@@ -9,7 +9,7 @@ ghost use Rattle.semantic_model.specs.Names.{bound_names};
 ghost use Rattle.semantic_kinds.specs.declared.kind.AstType.TheVariants.{BindingIdentifier as binding_identifier};
 ghost use Rattle.semantic_kinds.specs.declared.role.Role.TheVariants.{Pattern as pattern_role};
 ghost use Rattle.semantic_tree.specs.Views.{is, child_of, holds};
-ghost use Rattle.walk_model.specs.WrittenNames.{is_written, openers_at, is_known_inside, opener_of_names, is_lexical, is_sloppy, counts_as, names_in, written_by, written_in, names_written};
+ghost use Rattle.walk_model.specs.WrittenNames.{is_written, openers_at, is_known_inside, opener_of_names, is_lexical, is_sloppy, declares_lexically, names_in, written_by, written_in, names_written};
 ghost use Rattle.walk_notes.specs.WrittenNames.{Adds, openers_of};
 
 use node_rules::bound_identifiers::bound_identifiers;
@@ -34,10 +34,10 @@ pub struct Namesakes {
 impl Model for Namesakes {
     ghost use Rattle.std.specs.Prelude.{List, length, map, ◌<◌, All};
     ghost use Rattle.std.specs.Coded.{codes};
-    ghost use Rattle.walk_model.specs.WrittenNames.{Written};
+    ghost use Rattle.walk_model.specs.WrittenNames.{WrittenName};
     ghost use Rattle.walk_notes.specs.WrittenNames.{written_of};
 
-    ghost Value = { List Written };
+    ghost Value = { List WrittenName };
 
     ghost coded = { Prim.hlevel (codes) };
 
@@ -93,7 +93,7 @@ fn has_pattern(parameter: AstKind<'_>) -> bool
 
 /// Whether the node declares lexical variables, a class, a function, or the names of a catch pattern.
 fn counts(kind: AstKind<'_>, parent: Option<AstKind<'_>>) -> bool
-    ensures { result ≡ counts_as kind.entry.node.now.kind kind.entry.node.now
+    ensures { result ≡ declares_lexically kind.entry.node.now.kind kind.entry.node.now
         (option_map shown parent.entry) }
 {
     match kind.ty() {

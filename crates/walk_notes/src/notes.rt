@@ -1,6 +1,6 @@
 //! Classes and labels as a walk notes them, node by node.
 ghost use Rattle.std.specs.Prelude.{◌≡◌, OnOk, OnErr};
-ghost use Rattle.node_rules.specs.Seen.{path_of};
+ghost use Rattle.node_rules.specs.Seen.{parent_path};
 ghost use Rattle.class_table.specs.Building.{IsCurrent};
 ghost use Rattle.class_table.specs.NotedSteps.{entered_under};
 ghost use Rattle.walk_notes.specs.NoteLists.{nothing_noted, noting, leaving, has_label_kind, is_noted, is_noted_behind};
@@ -84,7 +84,7 @@ impl<'a> Notes<'a> {
         parent: Option<AstKind<'a>>,
     ) -> Result<(), AllocError>
         ensures ok { OnOk result (self.new
-            ≡ noting (path_of parent.entry) kind.entry.node.now self.old) }
+            ≡ noting (parent_path parent.entry) kind.entry.node.now self.old) }
         ensures err { OnErr result (self.new ≡ self.old) }
     {
         if may_have_label(kind.ty()) {
@@ -102,7 +102,8 @@ impl<'a> Notes<'a> {
     ) -> Result<(), AllocError>
         ensures ok { OnOk result (self.new
             ≡ record self.old {
-              classes = entered_under (path_of parent.entry) kind.entry.node.now self.old.classes;
+              classes = entered_under
+                  (parent_path parent.entry) kind.entry.node.now self.old.classes;
             }) }
         ensures err { OnErr result (self.new ≡ self.old) }
     {

@@ -13,7 +13,7 @@ use Rattle.semantic_model.specs.Place.{Place}
 use Rattle.program_laws.proofs.DeclaredNodes.{among_map, among_flat}
 use Rattle.language_ties.specs.AgreeingNames.{is_declared_plainly}
 use Rattle.language_ties.specs.Bound as language
-use Rattle.language_ties.specs.Bound.{Bound, bound_in, bound_here, bound_outward, bound_by_declarator, bound_by_declaration, bound_by_function, bound_by_class, bound_by_catch, bound_by, is_bound_as}
+use Rattle.language_ties.specs.Bound.{Bound, bound_identifier, bound_here, bound_outward, bound_by_declarator, bound_by_declaration, bound_by_function, bound_by_class, bound_by_catch, bound_by_node, is_bound_as}
 use Rattle.language_ties.specs.Environments.{Environment, environments, innermost, passed, variable_environment}
 use Rattle.language_ties.specs.declared.bound_as.BoundAs.{BoundAs}
 use Rattle.language_ties.specs.declared.bound_as.BoundAs.TheVariants as bound
@@ -46,19 +46,19 @@ module _ (s : SourceType) (r : Place) (b : Bound) (plain : is_declared_plainly b
   not_lexical : (n : Node) → is_bound_as bound.Lexical (bound_by_declaration s r.node r.path n) ≡ false
   not_lexical n = either (language.is_block_function s r.node r.path)
     where
-      either : (t : Bool) → is_bound_as bound.Lexical (cond t (bound_in bound.Function (innermost (environments r.node r.path)) (variable_environment (environments r.node r.path) ∷ []) (passed (environments r.node r.path)) n) (bound_here bound.Function (environments r.node r.path) n)) ≡ false
+      either : (t : Bool) → is_bound_as bound.Lexical (cond t (bound_identifier bound.Function (innermost (environments r.node r.path)) (variable_environment (environments r.node r.path) ∷ []) (passed (environments r.node r.path)) n) (bound_here bound.Function (environments r.node r.path) n)) ≡ false
       either true = refl
       either false = refl
 
   function : Among b (bound_by_function s r.node r.path) → IsClassBound r b d
   function a = go (is_statement r.node) a
     where
-      go : (t : Bool) → Among b (map (cond t (bound_by_declaration s r.node r.path) (bound_in bound.OwnName (record { kind = environment.OwnName; maker = r.node.node_id }) [] [])) (names_at role.Id r.node)) → IsClassBound r b d
+      go : (t : Bool) → Among b (map (cond t (bound_by_declaration s r.node r.path) (bound_identifier bound.OwnName (record { kind = environment.OwnName; maker = r.node.node_id }) [] [])) (names_at role.Id r.node)) → IsClassBound r b d
       go true c =
           let (n, i, q) = among_map (bound_by_declaration s r.node r.path) (names_at role.Id r.node) b c in
           none_also (by_one b plain (sym (ap (is_bound_as bound.Lexical) q) ∙ not_lexical n))
       go false c =
-          let (n, i, q) = among_map (bound_in bound.OwnName (record { kind = environment.OwnName; maker = r.node.node_id }) [] []) (names_at role.Id r.node) b c in
+          let (n, i, q) = among_map (bound_identifier bound.OwnName (record { kind = environment.OwnName; maker = r.node.node_id }) [] []) (names_at role.Id r.node) b c in
           none_also (sym (ap (λ z. z.also) q))
 
   class : Among b (bound_by_class r.node r.path) → IsClassBound r b d
@@ -68,12 +68,12 @@ module _ (s : SourceType) (r : Place) (b : Bound) (plain : is_declared_plainly b
       by t e (inl w) = record { inside = sym w; around = e; statement = t }
       by t e (inr w) = absurd w
 
-      go : (t : Bool) → is_statement r.node ≡ t → Among b (map (cond t (bound_in bound.Lexical (innermost (environments r.node r.path)) (record { kind = environment.Class; maker = r.node.node_id } ∷ []) []) (bound_in bound.OwnName (record { kind = environment.Class; maker = r.node.node_id }) [] [])) (names_at role.Id r.node)) → IsClassBound r b d
+      go : (t : Bool) → is_statement r.node ≡ t → Among b (map (cond t (bound_identifier bound.Lexical (innermost (environments r.node r.path)) (record { kind = environment.Class; maker = r.node.node_id } ∷ []) []) (bound_identifier bound.OwnName (record { kind = environment.Class; maker = r.node.node_id }) [] [])) (names_at role.Id r.node)) → IsClassBound r b d
       go true t c =
-          let (n, i, q) = among_map (bound_in bound.Lexical (innermost (environments r.node r.path)) (record { kind = environment.Class; maker = r.node.node_id } ∷ []) []) (names_at role.Id r.node) b c in
+          let (n, i, q) = among_map (bound_identifier bound.Lexical (innermost (environments r.node r.path)) (record { kind = environment.Class; maker = r.node.node_id } ∷ []) []) (names_at role.Id r.node) b c in
           by t (sym (ap (λ z. z.environment) q)) (subst (Among d) (sym (ap (λ z. z.also) q)) also)
       go false t c =
-          let (n, i, q) = among_map (bound_in bound.OwnName (record { kind = environment.Class; maker = r.node.node_id }) [] []) (names_at role.Id r.node) b c in
+          let (n, i, q) = among_map (bound_identifier bound.OwnName (record { kind = environment.Class; maker = r.node.node_id }) [] []) (names_at role.Id r.node) b c in
           none_also (sym (ap (λ z. z.also) q))
 
   catch : (patterns : List Node) → Among b (flat_map (bound_by_catch (environments r.node r.path)) patterns) → IsClassBound r b d
@@ -81,7 +81,7 @@ module _ (s : SourceType) (r : Place) (b : Bound) (plain : is_declared_plainly b
       let (n, c, i) = among_flat (bound_by_catch (environments r.node r.path)) patterns b a in
       names_here (cond (is kind.BindingIdentifier n) bound.CatchName bound.Lexical) (environments r.node r.path) (bound_names n) i
 
-  pub class_bound : (k : AstType) → Among b (bound_by k s r.node r.path) → IsClassBound r b d
+  pub class_bound : (k : AstType) → Among b (bound_by_node k s r.node r.path) → IsClassBound r b d
   class_bound kind.VariableDeclarator a = declarator r.path a
   class_bound kind.Function a = function a
   class_bound kind.Class a = class a

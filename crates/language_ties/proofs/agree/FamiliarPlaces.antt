@@ -24,7 +24,7 @@ use Rattle.semantic_model.specs.Inside.{body_number, is_inside, is_in_header, is
 use Rattle.semantic_model.specs.Entries.{Among}
 use Rattle.semantic_model.specs.Place.{Place, OpenScope, innermost, outside}
 use Rattle.semantic_model.specs.ScopeKind.{opened_scope}
-use Rattle.semantic_model.specs.Step.{Step, entering, opening, header_ending, closing, leaving, steps_below, steps, root_place, scope_at, child_place, chain_within}
+use Rattle.semantic_model.specs.Step.{Step, entering, opening, header_ending, closing, leaving, steps_below, steps, root_place, scope_at, child_place, child_scopes}
 use Rattle.semantic_model.proofs.form.Clauses.{kind_is}
 use Rattle.semantic_model.proofs.form.ParameterShape.{is_parameter}
 use Rattle.semantic_model.proofs.form.PartsHold.{passed_hold}
@@ -179,7 +179,7 @@ module _ (g : ℕ → Option Node) where
   outside_clauses [] h = tt
   outside_clauses (s ∷ ss) h = h.1
 
-  within_clauses : (p : Place) (r : Role) (own : Option OpenScope) → AllClauseScopes p.chain → OwnClause own → AllClauseScopes (chain_within p r own)
+  within_clauses : (p : Place) (r : Role) (own : Option OpenScope) → AllClauseScopes p.chain → OwnClause own → AllClauseScopes (child_scopes p r own)
   within_clauses p r None a o = a
   within_clauses p r (Some s) a o = go (is_inside p.node.kind r)
     where
@@ -190,7 +190,7 @@ module _ (g : ℕ → Option Node) where
   child_clauses : (p : Place) (own : Option OpenScope) (cursor : ℕ) (r : Role) (node : Node) → AllClauseScopes p.chain → OwnClause own → AllClauseScopes (child_place p own cursor r node).chain
   child_clauses p own cursor r node a o = go (is_parameter_decorator p.node.kind r)
     where
-      go : (t : Bool) → AllClauseScopes (cond t (outside p.chain) (chain_within p r own))
+      go : (t : Bool) → AllClauseScopes (cond t (outside p.chain) (child_scopes p r own))
       go true = outside_clauses p.chain a
       go false = within_clauses p r own a o
 

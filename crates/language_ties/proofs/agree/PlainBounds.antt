@@ -22,7 +22,7 @@ use Rattle.program_laws.proofs.DeclaredNodes.{among_map, among_flat}
 use Rattle.tangle_model.specs.Surroundings.{in_with_under}
 use Rattle.language_ties.specs.AgreeingNames.{has_none, is_declared_plainly, IsBoundOutsideWith}
 use Rattle.language_ties.specs.Bound as language
-use Rattle.language_ties.specs.Bound.{Bound, bound_in, bound_here, bound_outward, bound_by_declarator, bound_by_declaration, bound_by_function, bound_by_class, bound_by_catch, bound_by, is_bound_as, written}
+use Rattle.language_ties.specs.Bound.{Bound, bound_identifier, bound_here, bound_outward, bound_by_declarator, bound_by_declaration, bound_by_function, bound_by_class, bound_by_catch, bound_by_node, is_bound_as, written}
 use Rattle.language_ties.specs.EcmaScript.{is_ecmascript}
 use Rattle.language_ties.specs.Environments.{Environment, is_made_for, has_parameter_expressions, environments, innermost, passed, takes_variables, variable_environment, first_taking, environment_or}
 use Rattle.language_ties.specs.OneSymbol.{IsBoundByNode}
@@ -39,14 +39,14 @@ use Rattle.language_ties.proofs.symbols.OneSymbol.{each_at}
 pub record IsBoundAt (s : SourceType) (ss : List Step) (b : Bound) : Type 0 where
   pub place : Place
   pub entered : Among (entering place) ss
-  pub binds : Among b (bound_by place.node.kind s place.node place.path)
+  pub binds : Among b (bound_by_node place.node.kind s place.node place.path)
 
 later : (s : SourceType) (st : Step) (ss : List Step) (b : Bound) → IsBoundAt s ss b → IsBoundAt s (st ∷ ss) b
 later s st ss b h = record { place = h.place; entered = inr h.entered; binds = h.binds }
 
 pub bound_at_place : (s : SourceType) (ss : List Step) (b : Bound) → Among b (written s ss) → IsBoundAt s ss b
 bound_at_place s [] b a = absurd a
-bound_at_place s (entering q ∷ ss) b a = elim (among_cases b (bound_by q.node.kind s q.node q.path) (written s ss) a) [
+bound_at_place s (entering q ∷ ss) b a = elim (among_cases b (bound_by_node q.node.kind s q.node q.path) (written s ss) a) [
   | inl c ↦ record { place = q; entered = inl refl; binds = c }
   | inr c ↦ later s (entering q) ss b (bound_at_place s ss b c)
 ]
@@ -160,7 +160,7 @@ module _ (s : SourceType) (x y : Node) (path : List Node) (rooted : EndsAtProgra
       go false c = names_here kind.VariableDeclarator bound.Lexical (bound_names x) b e refl c
 
   -- a function that is a statement stays where it stands
-  statement : (b : Bound) → is_declared_plainly b ≡ true → (t : Bool) → language.is_block_function s x (y ∷ path) ≡ t → (n : Node) → b ≡ cond t (bound_in bound.Function (innermost es) (variable_environment es ∷ []) (passed es) n) (bound_here bound.Function es n) → Stands s x (y ∷ path) b
+  statement : (b : Bound) → is_declared_plainly b ≡ true → (t : Bool) → language.is_block_function s x (y ∷ path) ≡ t → (n : Node) → b ≡ cond t (bound_identifier bound.Function (innermost es) (variable_environment es ∷ []) (passed es) n) (bound_here bound.Function es n) → Stands s x (y ∷ path) b
   statement b h true w n q = absurd (never_empty (variable_environment es) [] (sym (by_one b h (ap (is_bound_as bound.Lexical) q)) ∙ ap (λ i. i.also) q))
   statement b h false w n q =
       let env : b.environment ≡ innermost es = ap (λ i. i.environment) q in
@@ -174,23 +174,23 @@ module _ (s : SourceType) (x y : Node) (path : List Node) (rooted : EndsAtProgra
   functions : (b : Bound) → is_declared_plainly b ≡ true → is_bound_as bound.OwnName b ≡ false → Among b (bound_by_function s x (y ∷ path)) → Stands s x (y ∷ path) b
   functions b h o a = go (is_statement x) a
     where
-      go : (t : Bool) → Among b (map (cond t (bound_by_declaration s x (y ∷ path)) (bound_in bound.OwnName (record { kind = environment.OwnName; maker = x.node_id }) [] [])) (names_at role.Id x)) → Stands s x (y ∷ path) b
+      go : (t : Bool) → Among b (map (cond t (bound_by_declaration s x (y ∷ path)) (bound_identifier bound.OwnName (record { kind = environment.OwnName; maker = x.node_id }) [] [])) (names_at role.Id x)) → Stands s x (y ∷ path) b
       go true c =
           let (n, d, q) = among_map (bound_by_declaration s x (y ∷ path)) (names_at role.Id x) b c in
           statement b h (language.is_block_function s x (y ∷ path)) refl n (sym q)
       go false c =
-          let (n, d, q) = among_map (bound_in bound.OwnName (record { kind = environment.OwnName; maker = x.node_id }) [] []) (names_at role.Id x) b c in
+          let (n, d, q) = among_map (bound_identifier bound.OwnName (record { kind = environment.OwnName; maker = x.node_id }) [] []) (names_at role.Id x) b c in
           absurd (never_both (ap (is_bound_as bound.OwnName) q ∙ o))
 
   classes : (b : Bound) → x.kind ≡ kind.Class → is_bound_as bound.OwnName b ≡ false → Among b (bound_by_class x (y ∷ path)) → Stands s x (y ∷ path) b
   classes b e o a = go (is_statement x) a
     where
-      go : (t : Bool) → Among b (map (cond t (bound_in bound.Lexical (innermost es) (record { kind = environment.Class; maker = x.node_id } ∷ []) []) (bound_in bound.OwnName (record { kind = environment.Class; maker = x.node_id }) [] [])) (names_at role.Id x)) → Stands s x (y ∷ path) b
+      go : (t : Bool) → Among b (map (cond t (bound_identifier bound.Lexical (innermost es) (record { kind = environment.Class; maker = x.node_id } ∷ []) []) (bound_identifier bound.OwnName (record { kind = environment.Class; maker = x.node_id }) [] [])) (names_at role.Id x)) → Stands s x (y ∷ path) b
       go true c =
-          let (n, d, q) = among_map (bound_in bound.Lexical (innermost es) (record { kind = environment.Class; maker = x.node_id } ∷ []) []) (names_at role.Id x) b c in
+          let (n, d, q) = among_map (bound_identifier bound.Lexical (innermost es) (record { kind = environment.Class; maker = x.node_id } ∷ []) []) (names_at role.Id x) b c in
           here kind.Class b e refl (sym (ap (λ i. i.environment) q))
       go false c =
-          let (n, d, q) = among_map (bound_in bound.OwnName (record { kind = environment.Class; maker = x.node_id }) [] []) (names_at role.Id x) b c in
+          let (n, d, q) = among_map (bound_identifier bound.OwnName (record { kind = environment.Class; maker = x.node_id }) [] []) (names_at role.Id x) b c in
           absurd (never_both (ap (is_bound_as bound.OwnName) q ∙ o))
 
   catches : (patterns : List Node) (b : Bound) → x.kind ≡ kind.CatchParameter → Among b (flat_map (bound_by_catch es) patterns) → Stands s x (y ∷ path) b
@@ -198,7 +198,7 @@ module _ (s : SourceType) (x y : Node) (path : List Node) (rooted : EndsAtProgra
       let (n, c, d) = among_flat (bound_by_catch es) patterns b a in
       names_here kind.CatchParameter (cond (is kind.BindingIdentifier n) bound.CatchName bound.Lexical) (bound_names n) b e refl d
 
-  by_kind : (k : AstType) (b : Bound) → x.kind ≡ k → is_declared_plainly b ≡ true → is_bound_as bound.OwnName b ≡ false → Among b (bound_by k s x (y ∷ path)) → Stands s x (y ∷ path) b
+  by_kind : (k : AstType) (b : Bound) → x.kind ≡ k → is_declared_plainly b ≡ true → is_bound_as bound.OwnName b ≡ false → Among b (bound_by_node k s x (y ∷ path)) → Stands s x (y ∷ path) b
   by_kind kind.VariableDeclarator b e h o a = variables b e a
   by_kind kind.Function b e h o a = functions b h o a
   by_kind kind.Class b e h o a = classes b e o a
@@ -221,13 +221,13 @@ pub record IsPlacedBound (p : Tree) (b : Bound) : Type 0 where
   pub makes : may_make maker.kind b.environment.kind ≡ true
   pub body : is_made_for environment.Body b.environment ≡ true → has_parameter_expressions maker ≡ true
 
-placed_in : (p : Tree) (b : Bound) (q : Place) (path : List Node) → q.path ≡ path → Among (entering q) (steps p) → IsFamiliar (node_at p) q → in_with_under q.path ≡ false → is_declared_plainly b ≡ true → is_bound_as bound.OwnName b ≡ false → Among b (bound_by q.node.kind p.source_type q.node q.path) → IsPlacedBound p b
-placed_in p b q [] e a f w h o c = absurd (root_binds q.node.kind (subst (EndsAtProgram q.node) e f.rooted) (subst (λ l. Among b (bound_by q.node.kind p.source_type q.node l)) e c))
+placed_in : (p : Tree) (b : Bound) (q : Place) (path : List Node) → q.path ≡ path → Among (entering q) (steps p) → IsFamiliar (node_at p) q → in_with_under q.path ≡ false → is_declared_plainly b ≡ true → is_bound_as bound.OwnName b ≡ false → Among b (bound_by_node q.node.kind p.source_type q.node q.path) → IsPlacedBound p b
+placed_in p b q [] e a f w h o c = absurd (root_binds q.node.kind (subst (EndsAtProgram q.node) e f.rooted) (subst (λ l. Among b (bound_by_node q.node.kind p.source_type q.node l)) e c))
   where
-    root_binds : (k : AstType) → q.node.kind ≡ kind.Program → Among b (bound_by q.node.kind p.source_type q.node []) → ⊥
-    root_binds k r i = subst (λ j. Among b (bound_by j p.source_type q.node [])) r i
+    root_binds : (k : AstType) → q.node.kind ≡ kind.Program → Among b (bound_by_node q.node.kind p.source_type q.node []) → ⊥
+    root_binds k r i = subst (λ j. Among b (bound_by_node j p.source_type q.node [])) r i
 placed_in p b q (y ∷ path) e a f w h o c =
-    let there : Among b (bound_by q.node.kind p.source_type q.node (y ∷ path)) = subst (λ l. Among b (bound_by q.node.kind p.source_type q.node l)) e c in
+    let there : Among b (bound_by_node q.node.kind p.source_type q.node (y ∷ path)) = subst (λ l. Among b (bound_by_node q.node.kind p.source_type q.node l)) e c in
     let rooted : EndsAtProgram y path = subst (EndsAtProgram q.node) e f.rooted in
     let known : AllKnown (node_at p) (y ∷ path) = subst (AllKnown (node_at p)) e f.path in
     let st : Stands p.source_type q.node (y ∷ path) b = by_kind p.source_type q.node y path rooted q.node.kind b refl h o there in

@@ -24,7 +24,7 @@ use Rattle.semantic_model.specs.EachStep.{EachStep}
 use Rattle.semantic_model.specs.Inside.{is_inside, is_in_header, is_parameter_decorator}
 use Rattle.semantic_model.specs.Place.{Place, OpenScope, outside, is_strict}
 use Rattle.semantic_model.specs.ScopeKind.{strict_if, accessor, value_of, method_flags, flags_of_kind, opened_scope}
-use Rattle.semantic_model.specs.Step.{Step, entering, opening, header_ending, closing, leaving, steps_below, steps, root_place, scope_at, child_place, chain_within}
+use Rattle.semantic_model.specs.Step.{Step, entering, opening, header_ending, closing, leaving, steps_below, steps, root_place, scope_at, child_place, child_scopes}
 use Rattle.semantic_model.proofs.form.ParameterChains.{is_open_inside}
 use Rattle.semantic_model.proofs.form.Shape.{has_form}
 use Rattle.semantic_model.proofs.steps.EachStep.{each_of_node, each_of_turn}
@@ -175,7 +175,7 @@ module _ (s : SourceType) where
         | inr w ↦ absurd (plain.1 w.1)
       ]
 
-  within_strict : (q : Place) (r : Role) (own : Option OpenScope) → Strict q → same_role r role.Decorators ≡ false → (is_inside q.node.kind r ≡ true → own ≡ None → ⊥) → OwnStrict q own → Within q → is_strict (chain_within q r own) ≡ true
+  within_strict : (q : Place) (r : Role) (own : Option OpenScope) → Strict q → same_role r role.Decorators ≡ false → (is_inside q.node.kind r ≡ true → own ≡ None → ⊥) → OwnStrict q own → Within q → is_strict (child_scopes q r own) ≡ true
   within_strict q r None k d reached o h = go (is_inside q.node.kind r) refl
     where
       go : (b : Bool) → is_inside q.node.kind r ≡ b → is_strict q.chain ≡ true
@@ -190,7 +190,7 @@ module _ (s : SourceType) where
   child_strict : (q : Place) (r : Role) (own : Option OpenScope) (cursor : ℕ) (node : Node) → Strict q → same_role r role.Decorators ≡ false → (is_inside q.node.kind r ≡ true → own ≡ None → ⊥) → OwnStrict q own → Strict (child_place q own cursor r node)
   child_strict q r own cursor node k d reached o = λ h.
       let none_decorates : is_parameter_decorator q.node.kind r ≡ false = ap (λ b. holds_kind (kind.FormalParameter ∷ kind.FormalParameterRest ∷ []) q.node.kind && b) d ∙ and_false (holds_kind (kind.FormalParameter ∷ kind.FormalParameterRest ∷ []) q.node.kind) in
-      inl (subst (λ b. is_strict (cond b (outside q.chain) (chain_within q r own)) ≡ true) (sym none_decorates) (within_strict q r own k d reached o h))
+      inl (subst (λ b. is_strict (cond b (outside q.chain) (child_scopes q r own)) ≡ true) (sym none_decorates) (within_strict q r own k d reached o h))
 
   undecorated : (k : AstType) (r : Role) (rest more : Bool) → ((is_ecmascript_kind k && not (same_role r role.Decorators)) && rest && more) ≡ true → same_role r role.Decorators ≡ false
   undecorated k r rest more h = not-true (same_role r role.Decorators) (and_second (is_ecmascript_kind k) (not (same_role r role.Decorators)) (and_first (is_ecmascript_kind k && not (same_role r role.Decorators)) rest (and_first ((is_ecmascript_kind k && not (same_role r role.Decorators)) && rest) more h)))

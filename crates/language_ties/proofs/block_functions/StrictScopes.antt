@@ -22,7 +22,7 @@ use Rattle.semantic_model.specs.EachStep.{EachStep}
 use Rattle.semantic_model.specs.Inside.{is_inside, is_in_header, is_parameter_decorator}
 use Rattle.semantic_model.specs.Place.{Place, OpenScope, outside, is_strict}
 use Rattle.semantic_model.specs.ScopeKind.{strict_if, accessor, value_of, method_flags, flags_of_kind, opened_scope}
-use Rattle.semantic_model.specs.Step.{Step, entering, opening, header_ending, closing, leaving, steps_below, steps, root_place, scope_at, chain_within}
+use Rattle.semantic_model.specs.Step.{Step, entering, opening, header_ending, closing, leaving, steps_below, steps, root_place, scope_at, child_scopes}
 use Rattle.semantic_model.proofs.form.Shape.{has_form}
 use Rattle.semantic_model.proofs.steps.EachStep.{each_of_node, each_of_turn}
 use Rattle.semantic_model.proofs.steps.Turn.{Turn, turn_at}
@@ -135,7 +135,7 @@ module _ (s : SourceType) where
       go true = opened_told q n t
       go false = tt
 
-  within_told : (q : Place) (r : Role) (own : Option OpenScope) → Told q → OwnTold q own → is_strict (chain_within q r own) ≡ true → Within q
+  within_told : (q : Place) (r : Role) (own : Option OpenScope) → Told q → OwnTold q own → is_strict (child_scopes q r own) ≡ true → Within q
   within_told q r None t o h = around_within q (t.strict h)
   within_told q r (Some c) t o h = go (is_inside q.node.kind r) h
     where
@@ -158,7 +158,7 @@ module _ (s : SourceType) where
       let scope_told : OwnTold q turn.scope = own_told q r own n t o in
       let none_decorates : is_parameter_decorator q.node.kind r ≡ false = ap (λ b. holds_kind (kind.FormalParameter ∷ kind.FormalParameterRest ∷ []) q.node.kind && b) here.1 ∙ and_false (holds_kind (kind.FormalParameter ∷ kind.FormalParameterRest ∷ []) q.node.kind) in
       let child : Told turn.child = record {
-        strict = λ h. within_told q r turn.scope t scope_told (subst (λ b. is_strict (cond b (outside q.chain) (chain_within q r turn.scope)) ≡ true) none_decorates h);
+        strict = λ h. within_told q r turn.scope t scope_told (subst (λ b. is_strict (cond b (outside q.chain) (child_scopes q r turn.scope)) ≡ true) none_decorates h);
         source = t.source;
         ecmascript = here.0;
       } in

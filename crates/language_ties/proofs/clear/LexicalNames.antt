@@ -12,11 +12,11 @@ use Rattle.semantic_tree.specs.Faults.{first_fault}
 use Rattle.semantic_tree.specs.Tree.{Tree}
 use Rattle.semantic_tree.specs.Views.{is, has, is_with_text, children_of}
 use Rattle.semantic_tree.specs.declared.node.Node.{Node}
-use Rattle.semantic_model.specs.Binder.{Row, declare, declare_here, variable_row, variables_under, is_pure_declarator, is_statement, function_row, class_row, ids, parameter_excluded, parameters_under, catch_names, import_flags, declared_by, declared_on_entering, declared_on_opening}
+use Rattle.semantic_model.specs.Binder.{BinderRow, declaration_at, declare_here, variable_row, variables_under, is_pure_declarator, is_statement, function_row, class_row, ids, parameter_excluded, parameters_under, catch_names, import_flags, declared_by, declared_on_entering, declared_on_opening}
 use Rattle.semantic_model.specs.Declaration.{Declaration, How, plain, hoisted, moved, caught, here}
 use Rattle.semantic_model.specs.EachStep.{EachStep}
 use Rattle.semantic_model.specs.Entries.{Among}
-use Rattle.semantic_model.specs.Event.{Event, declares, takes_over, declared, declared_at, declarations, events, events_of, declares_all, is_barred, staying, placed, placed_by, taken_over, is_catch_body, written_declarations}
+use Rattle.semantic_model.specs.Event.{Event, declares, takes_over, declared, declared_at, declarations, events, events_of, declares_all, is_barred, staying_declaration, placed, placed_by, taken_over, is_catch_body, written_declarations}
 use Rattle.semantic_model.specs.Names.{bound_names, bound_below, names_at}
 use Rattle.semantic_model.specs.Place as place
 use Rattle.semantic_model.specs.Place.{Place, OpenScope, parent_holds}
@@ -26,7 +26,7 @@ use Rattle.semantic_model.proofs.form.Shape.{has_form}
 use Rattle.semantic_model.proofs.lists.Members.{among_left, among_right, among_cases}
 use Rattle.program_laws.proofs.DeclaredNodes.{among_map, among_flat}
 use Rattle.language_ties.specs.Bound as language
-use Rattle.language_ties.specs.Bound.{Bound, bound_in, bound_here, bound_outward, bound_by_declarator, bound_by_declaration, bound_by_catch, bound_by, written}
+use Rattle.language_ties.specs.Bound.{Bound, bound_identifier, bound_here, bound_outward, bound_by_declarator, bound_by_declaration, bound_by_catch, bound_by_node, written}
 use Rattle.language_ties.specs.ClearNames.{may_go_out, StaysInside}
 use Rattle.language_ties.specs.EcmaScript.{is_ecmascript_kind, is_ecmascript}
 use Rattle.language_ties.specs.Environments.{Environment, environments, innermost, passed, variable_environment}
@@ -39,14 +39,14 @@ abbrev IsPlain : Declaration → Type 0
 IsPlain d = d.how ≡ plain
 
 -- among the names of a row
-row_plain : (node : Node) (row : Row) (b : Bool) (names : List Node) (d : Declaration) → row.how ≡ plain → Among d (map (declare node row b) names) → IsPlain d
-row_plain node row b names d e a = let (n, c, q) = among_map (declare node row b) names d a in sym (ap (λ i. i.how) q) ∙ e
+row_plain : (node : Node) (row : BinderRow) (b : Bool) (names : List Node) (d : Declaration) → row.how ≡ plain → Among d (map (declaration_at node row b) names) → IsPlain d
+row_plain node row b names d e a = let (n, c, q) = among_map (declaration_at node row b) names d a in sym (ap (λ i. i.how) q) ∙ e
 
 here_plain : (p : Place) (flags excluded : ℕ) (names : List Node) (d : Declaration) → Among d (declare_here p flags excluded names) → IsPlain d
 here_plain p flags excluded names d a = row_plain p.node (record { flags = flags; excluded = excluded; how = plain; route = here p.chain }) false names d refl a
 
 -- what is bound of the same name
-same_name : (node : Node) (row : Row) (b : Bool) (f : Node → Bound) (names : List Node) (d : Declaration) → ((n : Node) → (f n).name ≡ n.text) → Among d (map (declare node row b) names) → (c : Bound) × Among c (map f names) × (c.name ≡ d.naming.name) × ((n : Node) × (c ≡ f n))
+same_name : (node : Node) (row : BinderRow) (b : Bool) (f : Node → Bound) (names : List Node) (d : Declaration) → ((n : Node) → (f n).name ≡ n.text) → Among d (map (declaration_at node row b) names) → (c : Bound) × Among c (map f names) × (c.name ≡ d.naming.name) × ((n : Node) × (c ≡ f n))
 same_name node row b f [] d h a = absurd a
 same_name node row b f (n ∷ names) d h (inl e) = (f n, inl refl, h n ∙ ap (λ i. i.naming.name) e, (n, refl))
 same_name node row b f (n ∷ names) d h (inr a) = let (c, i, j, k) = same_name node row b f names d h a in (c, inr i, j, k)
@@ -62,7 +62,7 @@ either_name false f g n h k = k
 module _ (s : SourceType) (p : Place) (x : Name) where
   -- nothing that a node of the kind binds by that name goes out
   abbrev Inside : AstType → Type 0
-  Inside k = (b : Bound) → Among b (bound_by k s p.node p.path) → b.name ≡ x → may_go_out b ≡ false
+  Inside k = (b : Bound) → Among b (bound_by_node k s p.node p.path) → b.name ≡ x → may_go_out b ≡ false
 
   variables : (path : List Node) → ((b : Bound) → Among b (bound_by_declarator p.node path) → b.name ≡ x → may_go_out b ≡ false) → (d : Declaration) → Among d (variables_under path p) → d.naming.name ≡ x → IsPlain d
   variables [] h d a e = absurd a
@@ -79,27 +79,27 @@ module _ (s : SourceType) (p : Place) (x : Name) where
   function_out : (n : Node) → may_go_out (bound_by_declaration s p.node p.path n) ≡ true
   function_out n =
       let es : List Environment = environments p.node p.path in
-      either_out (language.is_block_function s p.node p.path) (bound_in bound.Function (innermost es) (variable_environment es ∷ []) (passed es) n) (bound_here bound.Function es n) refl refl
+      either_out (language.is_block_function s p.node p.path) (bound_identifier bound.Function (innermost es) (variable_environment es ∷ []) (passed es) n) (bound_here bound.Function es n) refl refl
 
   function_name : (n : Node) → (bound_by_declaration s p.node p.path n).name ≡ n.text
   function_name n =
       let es : List Environment = environments p.node p.path in
-      either_name (language.is_block_function s p.node p.path) (bound_in bound.Function (innermost es) (variable_environment es ∷ []) (passed es) n) (bound_here bound.Function es n) n.text refl refl
+      either_name (language.is_block_function s p.node p.path) (bound_identifier bound.Function (innermost es) (variable_environment es ∷ []) (passed es) n) (bound_here bound.Function es n) n.text refl refl
 
   functions : Inside kind.Function → (d : Declaration) → Among d (declared_by kind.Function p) → d.naming.name ≡ x → IsPlain d
   functions h d a e = go (is_statement p.node) refl a
     where
-      go : (b : Bool) → is_statement p.node ≡ b → Among d (cond b (map (declare p.node (function_row p) (has mark.Pure p.node)) (ids p.node)) []) → IsPlain d
+      go : (b : Bool) → is_statement p.node ≡ b → Among d (cond b (map (declaration_at p.node (function_row p) (has mark.Pure p.node)) (ids p.node)) []) → IsPlain d
       go true q c =
           let (f, i, j, k) = same_name p.node (function_row p) (has mark.Pure p.node) (bound_by_declaration s p.node p.path) (ids p.node) d function_name c in
-          let w : may_go_out f ≡ false = h f (subst (λ t. Among f (map (cond t (bound_by_declaration s p.node p.path) (bound_in bound.OwnName (record { kind = environment.OwnName; maker = p.node.node_id }) [] [])) (ids p.node))) (sym q) i) (j ∙ e) in
+          let w : may_go_out f ≡ false = h f (subst (λ t. Among f (map (cond t (bound_by_declaration s p.node p.path) (bound_identifier bound.OwnName (record { kind = environment.OwnName; maker = p.node.node_id }) [] [])) (ids p.node))) (sym q) i) (j ∙ e) in
           let v : true ≡ false = sym (function_out k.0) ∙ sym (ap may_go_out k.1) ∙ w in absurd cc
       go false q c = absurd c
 
   classes : (d : Declaration) → Among d (declared_by kind.Class p) → IsPlain d
   classes d a = go (is_statement p.node) a
     where
-      go : (b : Bool) → Among d (cond b (map (declare p.node (class_row p p.chain) false) (ids p.node)) []) → IsPlain d
+      go : (b : Bool) → Among d (cond b (map (declaration_at p.node (class_row p p.chain) false) (ids p.node)) []) → IsPlain d
       go true c = row_plain p.node (class_row p p.chain) false (ids p.node) d refl c
       go false c = absurd c
 
@@ -121,10 +121,10 @@ module _ (s : SourceType) (p : Place) (x : Name) where
     | inr c ↦ catches ys (λ b i. h b (among_right b (bound_by_catch (environments p.node p.path) y) (flat_map (bound_by_catch (environments p.node p.path)) ys) i)) d c e
   ]
     where
-      row : Row
+      row : BinderRow
       row = record { flags = union symbol.FunctionScopedVariable.bits symbol.CatchVariable.bits; excluded = 0; how = caught; route = here p.chain }
 
-      go : (t : Bool) → is kind.BindingIdentifier y ≡ t → Among d (if t then declare p.node row false y ∷ [] else declare_here p (union symbol.BlockScopedVariable.bits symbol.CatchVariable.bits) symbol.BlockScopedVariableExcludes.bits (bound_names y)) → IsPlain d
+      go : (t : Bool) → is kind.BindingIdentifier y ≡ t → Among d (if t then declaration_at p.node row false y ∷ [] else declare_here p (union symbol.BlockScopedVariable.bits symbol.CatchVariable.bits) symbol.BlockScopedVariableExcludes.bits (bound_names y)) → IsPlain d
       go true q (inl c) =
           let f : Bound = bound_here bound.CatchName (environments p.node p.path) y in
           let there : Among f (bound_by_catch (environments p.node p.path) y) = subst (λ t. Among f (map (bound_here (cond t bound.CatchName bound.Lexical) (environments p.node p.path)) (cond t (y ∷ []) (bound_below y.kind y.children)))) (sym q) (inl refl) in
@@ -181,7 +181,7 @@ module _ (p : Tree) (x : Name) (h : first_fault p ≡ None) (e : is_ecmascript p
       each_step st (y ∷ ss) k (inl i) = subst IsEcmaScriptAt i k.0
       each_step st (y ∷ ss) k (inr i) = each_step st ss k.1 i
 
-      bound_there : (c : Bound) (q : Place) (ss : List Step) → Among (entering q) ss → Among c (bound_by q.node.kind p.source_type q.node q.path) → Among c (written p.source_type ss)
+      bound_there : (c : Bound) (q : Place) (ss : List Step) → Among (entering q) ss → Among c (bound_by_node q.node.kind p.source_type q.node q.path) → Among c (written p.source_type ss)
       bound_there c q [] i j = absurd i
       bound_there c q (y ∷ ss) (inl i) j = among_left c (language.bound_at p.source_type y) (written p.source_type ss) (subst (λ z. Among c (language.bound_at p.source_type z)) (sym i) j)
       bound_there c q (y ∷ ss) (inr i) j = among_right c (language.bound_at p.source_type y) (written p.source_type ss) (bound_there c q ss i j)
@@ -202,7 +202,7 @@ module _ (p : Tree) (x : Name) (h : first_fault p ≡ None) (e : is_ecmascript p
   placed_kept caught n = refl
   placed_kept moved n = go (is_barred ds n (place.outside n.route.passed))
     where
-      go : (b : Bool) → (if b then staying n else n).naming ≡ n.naming
+      go : (b : Bool) → (if b then staying_declaration n else n).naming ≡ n.naming
       go true = refl
       go false = refl
 

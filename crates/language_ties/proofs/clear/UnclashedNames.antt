@@ -19,7 +19,7 @@ use Rattle.semantic_tree.specs.Faults.{first_fault}
 use Rattle.semantic_tree.specs.Tree.{Tree, IsNumbered}
 use Rattle.semantic_tree.specs.Views.{is, has, is_with_text, children_of}
 use Rattle.semantic_tree.specs.declared.node.Node.{Node}
-use Rattle.semantic_model.specs.Binder.{Row, declare, declare_here, variable_row, variables_under, is_pure_declarator, is_statement, is_var, is_block_function, function_row, class_row, ids, parameter_excluded, parameters_under, import_flags, catch_names, declared_by, declared_on_entering}
+use Rattle.semantic_model.specs.Binder.{BinderRow, declaration_at, declare_here, variable_row, variables_under, is_pure_declarator, is_statement, is_var, is_block_function, function_row, class_row, ids, parameter_excluded, parameters_under, import_flags, catch_names, declared_by, declared_on_entering}
 use Rattle.semantic_model.specs.Declaration.{Declaration, How, plain, hoisted, moved, caught, here, passed_before, outward_to}
 use Rattle.semantic_model.specs.Entries.{Among}
 use Rattle.semantic_model.specs.Event.{declarations, events}
@@ -35,7 +35,7 @@ use Rattle.walk_model.proofs.headers.NoStatements.{is_loose}
 use Rattle.program_laws.proofs.DeclaredNodes.{among_map, among_flat}
 use Rattle.language_ties.specs.AgreeingNames.{is_plain, is_declared_plainly, IsPlainName, IsBoundOutsideWith}
 use Rattle.language_ties.specs.Bound as language
-use Rattle.language_ties.specs.Bound.{Bound, bound_in, bound_here, bound_outward, bound_by_declarator, bound_by_declaration, bound_by_function, bound_by_class, bound_by_catch, bound_by, bound_at, is_bound_as, written}
+use Rattle.language_ties.specs.Bound.{Bound, bound_identifier, bound_here, bound_outward, bound_by_declarator, bound_by_declaration, bound_by_function, bound_by_class, bound_by_catch, bound_by_node, bound_at, is_bound_as, written}
 use Rattle.language_ties.specs.contracts.bound_as.BoundAs.{the_type as the_ways}
 use denote.Enum.Bare.{same_true}
 use Rattle.language_ties.specs.EarlyErrors.{meets_lexical, clashes, has_clash}
@@ -132,10 +132,10 @@ variable_of q (declaration ∷ path) e d a h = go (is_with_text kind.VariableDec
   where
     go : (b : Bool) → is_with_text kind.VariableDeclaration (codes "var") declaration ≡ b → IsVariable q d
     go true w =
-        let (n, c, i) = among_map (declare q.node (variable_row declaration q.chain) (is_pure_declarator q.node)) (bound_names q.node) d a in
+        let (n, c, i) = among_map (declaration_at q.node (variable_row declaration q.chain) (is_pure_declarator q.node)) (bound_names q.node) d a in
         record { declaration = declaration; path = path; above = e; var = w; route = sym (ap (λ z. z.route) i) ∙ rw w refl }
     go false w =
-        let (n, c, i) = among_map (declare q.node (variable_row declaration q.chain) (is_pure_declarator q.node)) (bound_names q.node) d a in
+        let (n, c, i) = among_map (declaration_at q.node (variable_row declaration q.chain) (is_pure_declarator q.node)) (bound_names q.node) d a in
         let plainly : (variable_row declaration q.chain).how ≡ plain = rw w refl in
         absurd (different (sym h ∙ sym (ap (λ z. z.how) i) ∙ plainly))
       where
@@ -157,17 +157,17 @@ hoisted_is q d a h =
     variable_of q q.path refl d (subst (λ j. Among d (declared_by j q)) k a) h
 
 -- what it binds is a variable
-variable_bound : (s : SourceType) (q : Place) (d : Declaration) (v : IsVariable q d) (b : Bound) → q.node.kind ≡ kind.VariableDeclarator → Among b (bound_by q.node.kind s q.node q.path) → (is_bound_as bound.Var b ≡ true) × (b.passed ≡ passed (environments q.node q.path))
+variable_bound : (s : SourceType) (q : Place) (d : Declaration) (v : IsVariable q d) (b : Bound) → q.node.kind ≡ kind.VariableDeclarator → Among b (bound_by_node q.node.kind s q.node q.path) → (is_bound_as bound.Var b ≡ true) × (b.passed ≡ passed (environments q.node q.path))
 variable_bound s q d v b k a =
     let es : List Environment = environments q.node (v.declaration ∷ v.path) in
-    let there : Among b (bound_by_declarator q.node (v.declaration ∷ v.path)) = subst (λ l. Among b (bound_by_declarator q.node l)) v.above (subst (λ j. Among b (bound_by j s q.node q.path)) k a) in
+    let there : Among b (bound_by_declarator q.node (v.declaration ∷ v.path)) = subst (λ l. Among b (bound_by_declarator q.node l)) v.above (subst (λ j. Among b (bound_by_node j s q.node q.path)) k a) in
     let outward : Among b (map (bound_outward es) (bound_names q.node)) = subst (λ t. Among b (map (cond t (bound_outward es) (bound_here bound.Lexical es)) (bound_names q.node))) v.var there in
     let (n, c, i) = among_map (bound_outward es) (bound_names q.node) b outward in
     (sym (ap (is_bound_as bound.Var) i), sym (ap (λ z. z.passed) i) ∙ ap (λ l. passed (environments q.node l)) (sym v.above))
 
 -- a plain catch name is bound as one, and nothing else is caught
-row_how : (node : Node) (row : Row) (b : Bool) (names : List Node) (d : Declaration) → Among d (map (declare node row b) names) → d.how ≡ row.how
-row_how node row b names d a = let (n, c, i) = among_map (declare node row b) names d a in sym (ap (λ z. z.how) i)
+row_how : (node : Node) (row : BinderRow) (b : Bool) (names : List Node) (d : Declaration) → Among d (map (declaration_at node row b) names) → d.how ≡ row.how
+row_how node row b names d a = let (n, c, i) = among_map (declaration_at node row b) names d a in sym (ap (λ z. z.how) i)
 
 never_caught : (w : How) → (w ≡ caught → ⊥) → (d : Declaration) → d.how ≡ w → d.how ≡ caught → ⊥
 never_caught w n d h c = n (sym h ∙ c)
@@ -181,7 +181,7 @@ hoisted_never h = absurd cc
 moved_never : moved ≡ caught → ⊥
 moved_never h = absurd cc
 
-module _ (s : SourceType) (q : Place) (x : Name) (none : (b : Bound) → Among b (bound_by q.node.kind s q.node q.path) → b.name ≡ x → is_bound_as bound.CatchName b ≡ false) where
+module _ (s : SourceType) (q : Place) (x : Name) (none : (b : Bound) → Among b (bound_by_node q.node.kind s q.node q.path) → b.name ≡ x → is_bound_as bound.CatchName b ≡ false) where
   caught_here : (flags excluded : ℕ) (names : List Node) (d : Declaration) → Among d (declare_here q flags excluded names) → d.how ≡ caught → ⊥
   caught_here flags excluded names d a = never_caught plain plain_never d (row_how q.node (record { flags = flags; excluded = excluded; how = plain; route = here q.chain }) false names d a)
 
@@ -200,14 +200,14 @@ module _ (s : SourceType) (q : Place) (x : Name) (none : (b : Bound) → Among b
       by true w r = never_caught moved moved_never d (r ∙ rw w refl)
       by false w r = never_caught plain plain_never d (r ∙ rw w refl)
 
-      go : (b : Bool) → Among d (cond b (map (declare q.node (function_row q) (has mark.Pure q.node)) (ids q.node)) []) → d.how ≡ caught → ⊥
+      go : (b : Bool) → Among d (cond b (map (declaration_at q.node (function_row q) (has mark.Pure q.node)) (ids q.node)) []) → d.how ≡ caught → ⊥
       go true c = by (is_block_function q) refl (row_how q.node (function_row q) (has mark.Pure q.node) (ids q.node) d c)
       go false c = absurd c
 
   caught_class : (d : Declaration) → Among d (declared_by kind.Class q) → d.how ≡ caught → ⊥
   caught_class d a = go (is_statement q.node) a
     where
-      go : (b : Bool) → Among d (cond b (map (declare q.node (class_row q q.chain) false) (ids q.node)) []) → d.how ≡ caught → ⊥
+      go : (b : Bool) → Among d (cond b (map (declaration_at q.node (class_row q q.chain) false) (ids q.node)) []) → d.how ≡ caught → ⊥
       go true c = never_caught plain plain_never d (row_how q.node (class_row q q.chain) false (ids q.node) d c)
       go false c = absurd c
 
@@ -229,10 +229,10 @@ module _ (s : SourceType) (q : Place) (x : Name) (none : (b : Bound) → Among b
     | inr c ↦ caught_catch ys (λ b i. k b (among_right b (bound_by_catch (environments q.node q.path) y) (flat_map (bound_by_catch (environments q.node q.path)) ys) i)) d c n
   ]
     where
-      row : Row
+      row : BinderRow
       row = record { flags = union symbol.FunctionScopedVariable.bits symbol.CatchVariable.bits; excluded = 0; how = caught; route = here q.chain }
 
-      go : (t : Bool) → is kind.BindingIdentifier y ≡ t → Among d (if t then declare q.node row false y ∷ [] else declare_here q (union symbol.BlockScopedVariable.bits symbol.CatchVariable.bits) symbol.BlockScopedVariableExcludes.bits (bound_names y)) → d.how ≡ caught → ⊥
+      go : (t : Bool) → is kind.BindingIdentifier y ≡ t → Among d (if t then declaration_at q.node row false y ∷ [] else declare_here q (union symbol.BlockScopedVariable.bits symbol.CatchVariable.bits) symbol.BlockScopedVariableExcludes.bits (bound_names y)) → d.how ≡ caught → ⊥
       go true w (inl c) =
           let f : Bound = bound_here bound.CatchName (environments q.node q.path) y in
           let there : Among f (bound_by_catch (environments q.node q.path) y) = subst (λ t. Among f (map (bound_here (cond t bound.CatchName bound.Lexical) (environments q.node q.path)) (cond t (y ∷ []) (bound_below y.kind y.children)))) (sym w) (inl refl) in
@@ -248,7 +248,7 @@ module _ (s : SourceType) (q : Place) (x : Name) (none : (b : Bound) → Among b
   none_caught kind.FormalParameter w i d a n = caught_parameter q.path d a
   none_caught kind.FormalParameterRest w i d a n = caught_parameter q.path d a
   none_caught kind.BindingRestElement w i d a n = caught_rest d a
-  none_caught kind.CatchParameter w i d a n = caught_catch (children_of role.Pattern q.node.children) (λ b c. none b (subst (λ j. Among b (bound_by j s q.node q.path)) (sym w) c)) d a n
+  none_caught kind.CatchParameter w i d a n = caught_catch (children_of role.Pattern q.node.children) (λ b c. none b (subst (λ j. Among b (bound_by_node j s q.node q.path)) (sym w) c)) d a n
   none_caught kind.ImportSpecifier w i d a n = caught_here (import_flags q) symbol.ImportBindingExcludes.bits (names_at role.Local q.node) d a
   none_caught kind.ImportDefaultSpecifier w i d a n = caught_here (import_flags q) symbol.ImportBindingExcludes.bits (names_at role.Local q.node) d a
   none_caught kind.ImportNamespaceSpecifier w i d a n = caught_here (import_flags q) symbol.ImportBindingExcludes.bits (names_at role.Local q.node) d a
@@ -339,30 +339,30 @@ module _ (s : SourceType) (q : Place) (f : ParentsFit q.node.kind q.path) (roote
   function_sort : (n : Node) → is_bound_as bound.Function (bound_by_declaration s q.node q.path n) ≡ true
   function_sort n = either (language.is_block_function s q.node q.path)
     where
-      either : (t : Bool) → is_bound_as bound.Function (cond t (bound_in bound.Function (innermost (environments q.node q.path)) (variable_environment (environments q.node q.path) ∷ []) (passed (environments q.node q.path)) n) (bound_here bound.Function (environments q.node q.path) n)) ≡ true
+      either : (t : Bool) → is_bound_as bound.Function (cond t (bound_identifier bound.Function (innermost (environments q.node q.path)) (variable_environment (environments q.node q.path) ∷ []) (passed (environments q.node q.path)) n) (bound_here bound.Function (environments q.node q.path) n)) ≡ true
       either true = refl
       either false = refl
 
   function : Among b (bound_by_function s q.node q.path) → LexicalOrTaken b
   function a = go (is_statement q.node) a
     where
-      go : (t : Bool) → Among b (map (cond t (bound_by_declaration s q.node q.path) (bound_in bound.OwnName (record { kind = environment.OwnName; maker = q.node.node_id }) [] [])) (names_at role.Id q.node)) → LexicalOrTaken b
+      go : (t : Bool) → Among b (map (cond t (bound_by_declaration s q.node q.path) (bound_identifier bound.OwnName (record { kind = environment.OwnName; maker = q.node.node_id }) [] [])) (names_at role.Id q.node)) → LexicalOrTaken b
       go true c =
           let (n, d, i) = among_map (bound_by_declaration s q.node q.path) (names_at role.Id q.node) b c in
           by_function b (sym (ap (is_bound_as bound.Function) i) ∙ function_sort n)
       go false c =
-          let (n, d, i) = among_map (bound_in bound.OwnName (record { kind = environment.OwnName; maker = q.node.node_id }) [] []) (names_at role.Id q.node) b c in
+          let (n, d, i) = among_map (bound_identifier bound.OwnName (record { kind = environment.OwnName; maker = q.node.node_id }) [] []) (names_at role.Id q.node) b c in
           absurd (never (ap (is_bound_as bound.OwnName) i ∙ no_own))
 
   class : Among b (bound_by_class q.node q.path) → LexicalOrTaken b
   class a = go (is_statement q.node) a
     where
-      go : (t : Bool) → Among b (map (cond t (bound_in bound.Lexical (innermost (environments q.node q.path)) (record { kind = environment.Class; maker = q.node.node_id } ∷ []) []) (bound_in bound.OwnName (record { kind = environment.Class; maker = q.node.node_id }) [] [])) (names_at role.Id q.node)) → LexicalOrTaken b
+      go : (t : Bool) → Among b (map (cond t (bound_identifier bound.Lexical (innermost (environments q.node q.path)) (record { kind = environment.Class; maker = q.node.node_id } ∷ []) []) (bound_identifier bound.OwnName (record { kind = environment.Class; maker = q.node.node_id }) [] [])) (names_at role.Id q.node)) → LexicalOrTaken b
       go true c =
-          let (n, d, i) = among_map (bound_in bound.Lexical (innermost (environments q.node q.path)) (record { kind = environment.Class; maker = q.node.node_id } ∷ []) []) (names_at role.Id q.node) b c in
+          let (n, d, i) = among_map (bound_identifier bound.Lexical (innermost (environments q.node q.path)) (record { kind = environment.Class; maker = q.node.node_id } ∷ []) []) (names_at role.Id q.node) b c in
           by_lexical b (sym (ap (is_bound_as bound.Lexical) i))
       go false c =
-          let (n, d, i) = among_map (bound_in bound.OwnName (record { kind = environment.Class; maker = q.node.node_id }) [] []) (names_at role.Id q.node) b c in
+          let (n, d, i) = among_map (bound_identifier bound.OwnName (record { kind = environment.Class; maker = q.node.node_id }) [] []) (names_at role.Id q.node) b c in
           absurd (never (ap (is_bound_as bound.OwnName) i ∙ no_own))
 
   parameter : is_parameter q.node.kind ≡ true → Among b (map (bound_here bound.Parameter (environments q.node q.path)) (bound_names q.node)) → LexicalOrTaken b
@@ -381,7 +381,7 @@ module _ (s : SourceType) (q : Place) (f : ParentsFit q.node.kind q.path) (roote
           absurd (never (ap (is_bound_as bound.CatchName) i ∙ no_catch_name b plain_bound))
       go false n c = lexical_names (environments q.node q.path) (bound_names n) c
 
-  lexical_or_taken : (k : AstType) → q.node.kind ≡ k → Among b (bound_by k s q.node q.path) → LexicalOrTaken b
+  lexical_or_taken : (k : AstType) → q.node.kind ≡ k → Among b (bound_by_node k s q.node q.path) → LexicalOrTaken b
   lexical_or_taken kind.VariableDeclarator w a = declarator q.path refl a
   lexical_or_taken kind.Function w a = function a
   lexical_or_taken kind.Class w a = class a
@@ -393,7 +393,7 @@ module _ (s : SourceType) (q : Place) (f : ParentsFit q.node.kind q.path) (roote
   lexical_or_taken kind.ImportNamespaceSpecifier w a = lexical_names (environments q.node q.path) (names_at role.Local q.node) a
   lexical_or_taken _ w a = absurd a
 
-among_written : (s : SourceType) (b : Bound) (q : Place) (ss : List Step) → Among (entering q) ss → Among b (bound_by q.node.kind s q.node q.path) → Among b (written s ss)
+among_written : (s : SourceType) (b : Bound) (q : Place) (ss : List Step) → Among (entering q) ss → Among b (bound_by_node q.node.kind s q.node q.path) → Among b (written s ss)
 among_written s b q [] i j = absurd i
 among_written s b q (y ∷ ss) (inl i) j = among_left b (bound_at s y) (written s ss) (subst (λ z. Among b (bound_at s z)) (sym i) j)
 among_written s b q (y ∷ ss) (inr i) j = among_right b (bound_at s y) (written s ss) (among_written s b q ss i j)

@@ -11,7 +11,7 @@ use Rattle.semantic_tree.specs.declared.node.Node.{Node}
 use Rattle.semantic_model.specs.Inside.{is_inside, is_in_header, is_parameter_decorator}
 use Rattle.semantic_model.specs.Place.{Place, OpenScope, outside}
 use Rattle.semantic_model.specs.ScopeKind.{opened_scope}
-use Rattle.semantic_model.specs.Step.{scope_at, child_place, chain_within}
+use Rattle.semantic_model.specs.Step.{scope_at, child_place, child_scopes}
 
 -- the child's chain is its parent's, or has the parent's own scope before
 pub data ChainOf (k : AstType) (r : Role) (q : Node) (outer : List OpenScope) : List OpenScope → Type 0 where
@@ -30,7 +30,7 @@ own_of q r None n k = go (is_inside q.node.kind r)
     go true = refl
     go false = tt
 
-within_of : (q : Place) (r : Role) (own : Option OpenScope) → (is_inside q.node.kind r ≡ true → own ≡ None → ⊥) → OwnOf q own → ChainOf q.node.kind r q.node q.chain (chain_within q r own)
+within_of : (q : Place) (r : Role) (own : Option OpenScope) → (is_inside q.node.kind r ≡ true → own ≡ None → ⊥) → OwnOf q own → ChainOf q.node.kind r q.node q.chain (child_scopes q r own)
 within_of q r None reached o = go (is_inside q.node.kind r) refl
   where
     go : (b : Bool) → is_inside q.node.kind r ≡ b → ChainOf q.node.kind r q.node q.chain q.chain
@@ -45,4 +45,4 @@ within_of q r (Some s) reached o = go (is_inside q.node.kind r) refl
 pub chain_of : (q : Place) (r : Role) (own : Option OpenScope) (cursor : ℕ) (node : Node) → same_role r role.Decorators ≡ false → (is_inside q.node.kind r ≡ true → own ≡ None → ⊥) → OwnOf q own → ChainOf q.node.kind r q.node q.chain (child_place q own cursor r node).chain
 chain_of q r own cursor node u reached o =
     let none_decorates : is_parameter_decorator q.node.kind r ≡ false = ap (λ b. holds_kind (kind.FormalParameter ∷ kind.FormalParameterRest ∷ []) q.node.kind && b) u ∙ and_false (holds_kind (kind.FormalParameter ∷ kind.FormalParameterRest ∷ []) q.node.kind) in
-    subst (λ b. ChainOf q.node.kind r q.node q.chain (cond b (outside q.chain) (chain_within q r own))) (sym none_decorates) (within_of q r own reached o)
+    subst (λ b. ChainOf q.node.kind r q.node q.chain (cond b (outside q.chain) (child_scopes q r own))) (sym none_decorates) (within_of q r own reached o)

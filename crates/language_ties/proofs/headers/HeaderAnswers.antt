@@ -41,7 +41,7 @@ use Rattle.binding_laws.proofs.HeaderFold.{IsCutAt, cut_at, header_start}
 use Rattle.binding_laws.proofs.Matched.{IsMatchedStep, AreMatched, program_matched}
 use Rattle.binding_laws.proofs.SymbolsAtNodes.{symbols_are_at_nodes}
 use Rattle.language_ties.specs.AgreeingNames.{IsPlainName, IsBoundOutsideWith}
-use Rattle.language_ties.specs.Bound.{Bound, bound_by, is_bound_as, written}
+use Rattle.language_ties.specs.Bound.{Bound, bound_by_node, is_bound_as, written}
 use Rattle.language_ties.specs.EcmaScript.{is_ecmascript}
 use Rattle.language_ties.specs.Environments.{Environment, is_made_for, has_parameter_expressions, environments, innermost, first_taking, environment_or}
 use Rattle.language_ties.specs.SharedSymbols.{AllKeepClear}
@@ -126,12 +126,12 @@ target_side g chain passed ds None None t h = h
 target_side g chain passed ds (Some s) None t h = absurd t
 target_side g chain passed ds None (Some d) t h = absurd t
 
-no_identifier : (s : SourceType) (q : Place) (b : Bound) → Among b (bound_by q.node.kind s q.node q.path) → is kind.BindingIdentifier q.node ≡ false
+no_identifier : (s : SourceType) (q : Place) (b : Bound) → Among b (bound_by_node q.node.kind s q.node q.path) → is kind.BindingIdentifier q.node ≡ false
 no_identifier s q b a = go (same_kind q.node.kind kind.BindingIdentifier) refl
   where
     go : (t : Bool) → same_kind q.node.kind kind.BindingIdentifier ≡ t → same_kind q.node.kind kind.BindingIdentifier ≡ false
     go false e = e
-    go true e = absurd (subst (λ k. Among b (bound_by k s q.node q.path)) (kind_is q.node.kind kind.BindingIdentifier e) a)
+    go true e = absurd (subst (λ k. Among b (bound_by_node k s q.node q.path)) (kind_is q.node.kind kind.BindingIdentifier e) a)
 
 module _ (p : Tree) (h : first_fault p ≡ None) (e : is_ecmascript p ≡ true) (numbered : IsNumbered p.root) (x : Name) (none : IsBoundOutsideWith p x) (clear : AllKeepClear x (declarations (events (steps p)))) (plain : IsPlainName p x) where
   abbrev es : List Event

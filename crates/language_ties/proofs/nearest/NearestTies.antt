@@ -10,7 +10,7 @@ use Rattle.semantic_tree.specs.Faults.{first_fault}
 use Rattle.semantic_tree.specs.Tree.{Tree}
 use Rattle.semantic_tree.specs.Views.{is}
 use Rattle.semantic_model.specs.Binding.{get}
-use Rattle.semantic_model.specs.Cursor.{way_of}
+use Rattle.semantic_model.specs.Cursor.{way_or_read}
 use Rattle.semantic_model.specs.EachStep.{EachStep}
 use Rattle.semantic_model.specs.Entries.{Among}
 use Rattle.semantic_model.specs.Event.{Event, declares, takes_over, ends_header, events, written_declarations}
@@ -35,7 +35,7 @@ use Rattle.language_ties.proofs.nearest.ValueSymbols.{IsValue, AllValues, value_
 use Rattle.language_ties.proofs.nearest.ValueWays.{IsPlainCursor, empty, reads, writes, reads_and_writes, exports, reads_member, IsPlainAt, plain_program}
 
 -- such a way fits a value
-usable : (c flags : ℕ) → IsPlainCursor c → IsValue flags → is_usable (way_of c) flags ≡ true
+usable : (c flags : ℕ) → IsPlainCursor c → IsValue flags → is_usable (way_or_read c) flags ≡ true
 usable _ flags empty v = rw v refl
 usable _ flags reads v = rw v refl
 usable _ flags writes v = rw v refl
@@ -124,15 +124,15 @@ module _ (p : Tree) (h : first_fault p ≡ None) (e : is_ecmascript p ≡ true) 
   seen_value true c s x g = bound_value (run start (until_end_of c es)) (sound_run table start (until_end_of c es) (orderly_until table c start es (orderly_events p f)) (sound_start table)) (values_run start (until_end_of c es) (values_until c es values) tt) c s x g
 
   -- one scope of the look-up
-  one_scope : (st : State) (x : Name) (cursor c flags : ℕ) (o : Option ℕ) (later : Lookup) (later' : Option ℕ) → IsPlainCursor cursor → is_arguments x (way_of cursor) ≡ false → ((s : ℕ) → o ≡ Some s → IsValue (flags_of st s)) → symbol_by later ≡ later'
-      → symbol_by (or_lookup (tied_by x (way_of cursor) c (seen_as st o)) (cond (ends_after x (way_of cursor) flags) (barred c) later)) ≡ or_else o later'
+  one_scope : (st : State) (x : Name) (cursor c flags : ℕ) (o : Option ℕ) (later : Lookup) (later' : Option ℕ) → IsPlainCursor cursor → is_arguments x (way_or_read cursor) ≡ false → ((s : ℕ) → o ≡ Some s → IsValue (flags_of st s)) → symbol_by later ≡ later'
+      → symbol_by (or_lookup (tied_by x (way_or_read cursor) c (seen_as st o)) (cond (ends_after x (way_or_read cursor) flags) (barred c) later)) ≡ or_else o later'
   one_scope st x cursor c flags None later later' k a v q = rw a q
   one_scope st x cursor c flags (Some s) later later' k a v q = rw (a, usable cursor (flags_of st s) k (v s refl)) refl
 
-  nearest : (x : Name) (cursor : ℕ) (chain : List OpenScope) → IsPlainCursor cursor → is_arguments x (way_of cursor) ≡ false → symbol_by (lookup x (way_of cursor) (map (answer final es x) chain)) ≡ nearest_symbol final es x chain
+  nearest : (x : Name) (cursor : ℕ) (chain : List OpenScope) → IsPlainCursor cursor → is_arguments x (way_or_read cursor) ≡ false → symbol_by (lookup x (way_or_read cursor) (map (answer final es x) chain)) ≡ nearest_symbol final es x chain
   nearest x cursor [] k a = refl
   nearest x cursor (s ∷ ss) k a =
-      one_scope (view final es s) x cursor s.number s.flags (get (view final es s).bindings s.number x) (lookup x (way_of cursor) (map (answer final es x) ss)) (nearest_symbol final es x ss) k a
+      one_scope (view final es s) x cursor s.number s.flags (get (view final es s).bindings s.number x) (lookup x (way_or_read cursor) (map (answer final es x) ss)) (nearest_symbol final es x ss) k a
       (λ r g. seen_value s.in_header s.number r x g) (nearest x cursor ss k a)
 
   not_arguments : (x : Name) (w : ℕ) → bytes_eq x (codes "arguments") ≡ false → is_arguments x w ≡ false
@@ -144,4 +144,4 @@ module _ (p : Tree) (h : first_fault p ≡ None) (e : is_ecmascript p ≡ true) 
       let plain : IsPlainCursor w.place.cursor = plain_of_entered w.place (steps p) (plain_program p h f.root e) w.entered in
       sym (entry_is p n r t i j)
       ∙ subst (λ v. symbol_by (lookup r.name v (map (answer final es r.name) r.chain)) ≡ nearest_symbol final es r.name r.chain) (ap (λ o. o.way) w.is_it)
-      (nearest r.name w.place.cursor r.chain plain (not_arguments r.name (way_of w.place.cursor) k))
+      (nearest r.name w.place.cursor r.chain plain (not_arguments r.name (way_or_read w.place.cursor) k))

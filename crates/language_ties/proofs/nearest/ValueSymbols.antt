@@ -11,7 +11,7 @@ use Rattle.semantic_model.specs.Binder.{ambient_if, declared_on_entering, declar
 use Rattle.semantic_model.specs.Binding.{get, bound_by}
 use Rattle.semantic_model.specs.Declaration.{Declaration, How, plain, hoisted, moved, caught, stands_in}
 use Rattle.semantic_model.specs.EachStep.{EachStep}
-use Rattle.semantic_model.specs.Event.{Event, declares, takes_over, ends_header, is_barred, staying, placed_by, is_catch_body, declares_all, taken_over, events_of, events}
+use Rattle.semantic_model.specs.Event.{Event, declares, takes_over, ends_header, is_barred, staying_declaration, placed_by, is_catch_body, declares_all, taken_over, events_of, events}
 use Rattle.semantic_model.specs.Fold.{State, update, redeclared, united, in_scope, new_symbol, note_symbol, against, declare_in, chosen, found}
 use Rattle.semantic_model.specs.Hoist.{PassedSymbol, passed_symbol, asked_symbols, against_all, remembering, move_symbol, hoist_by, move_out, declare_by, rescoped, act, run}
 use Rattle.semantic_model.specs.Place.{Place, OpenScope, innermost, outside}
@@ -151,7 +151,7 @@ placed_value hoisted ds d h = h
 placed_value caught ds d h = h
 placed_value moved ds d h = go (is_barred ds d (outside d.route.passed))
   where
-    go : (b : Bool) → IsValue (if b then staying d else d).naming.flags
+    go : (b : Bool) → IsValue (if b then staying_declaration d else d).naming.flags
     go true = h
     go false = h
 

@@ -23,7 +23,7 @@ use Rattle.semantic_tree.specs.Unwrapped.{inner_expression}
 use Rattle.semantic_tree.specs.Views.{is, has, has_text}
 use Rattle.semantic_tree.specs.declared.node.Node.{Node}
 use Rattle.semantic_model.specs.Ambient.{ambient_inside, ambient_round}
-use Rattle.semantic_model.specs.Cursor.{is_write_place, written, is_member_or_chain, exported, typed_key, at_child, cursor_before, cursor_behind, target_of_write, on_entering, on_leaving, cursor_after}
+use Rattle.semantic_model.specs.Cursor.{is_write_place, way_written, is_member_or_chain, way_exported, typed_key, at_child, cursor_before, cursor_behind, target_of_write, on_entering, on_leaving, cursor_after}
 use Rattle.semantic_model.specs.EachStep.{EachStep}
 use Rattle.semantic_model.specs.Place.{Place, OpenScope}
 use Rattle.semantic_model.specs.Step.{Step, entering, opening, header_ending, closing, leaving, steps_below, steps, root_place}
@@ -64,11 +64,11 @@ either false c d h k = k
 
 -- ---- the rules
 
-written_plain : (k : AstType) (r : Role) (child : Node) (c : ℕ) → IsPlainCursor c → IsPlainCursor (written k r child c)
+written_plain : (k : AstType) (r : Role) (child : Node) (c : ℕ) → IsPlainCursor c → IsPlainCursor (way_written k r child c)
 written_plain k r child c h = either (is_write_place k r && is_simple_target child.kind && not (meets c way.Write.bits)) way.Write.bits c writes h
 
 -- without marks of TypeScript nothing is exported as a type
-exported_plain : (parent child : Node) → has mark.TypeOnly parent ≡ false → has mark.TypeOnly child ≡ false → IsPlainCursor (exported parent child)
+exported_plain : (parent child : Node) → has mark.TypeOnly parent ≡ false → has mark.TypeOnly child ≡ false → IsPlainCursor (way_exported parent child)
 exported_plain parent child h k = rw (k, h) exports
 
 typed_plain : (parent : Node) (ambient : Bool) (c : ℕ) → has mark.Abstract parent ≡ false → ambient ≡ false → IsPlainCursor c → IsPlainCursor (typed_key parent ambient c)

@@ -11,7 +11,7 @@ use Rattle.semantic_tree.specs.Faults.{first_fault}
 use Rattle.semantic_tree.specs.Tree.{Tree}
 use Rattle.semantic_tree.specs.Views.{is, has, is_with_text, children_of}
 use Rattle.semantic_tree.specs.declared.node.Node.{Node}
-use Rattle.semantic_model.specs.Binder.{declare, own_function_row, class_row, is_statement, is_special, ids, declared_inside, declared_on_opening}
+use Rattle.semantic_model.specs.Binder.{declaration_at, own_function_row, class_row, is_statement, is_special, ids, declared_inside, declared_on_opening}
 use Rattle.semantic_model.specs.Declaration.{Declaration, plain}
 use Rattle.semantic_model.specs.Entries.{Among}
 use Rattle.semantic_model.specs.Event.{declares, declared, declarations, events, events_of, declares_all, placed, placed_by, taken_over, written_declarations}
@@ -24,7 +24,7 @@ use Rattle.semantic_model.proofs.form.Shape.{has_form}
 use Rattle.semantic_model.proofs.lists.Members.{among_right}
 use Rattle.program_laws.proofs.DeclaredNodes.{among_map, among_flat}
 use Rattle.language_ties.specs.Bound as language
-use Rattle.language_ties.specs.Bound.{Bound, bound_in, bound_here, bound_outward, bound_by_declarator, bound_by_declaration, bound_by_function, bound_by_class, bound_by_catch, bound_by, is_bound_as, written}
+use Rattle.language_ties.specs.Bound.{Bound, bound_identifier, bound_here, bound_outward, bound_by_declarator, bound_by_declaration, bound_by_function, bound_by_class, bound_by_catch, bound_by_node, is_bound_as, written}
 use Rattle.language_ties.specs.Environments.{Environment, environments, innermost, passed, variable_environment}
 use Rattle.language_ties.specs.SharedSymbols.{is_own_name}
 use Rattle.language_ties.specs.declared.bound_as.BoundAs.{BoundAs}
@@ -76,7 +76,7 @@ module _ (s : SourceType) (x : Node) (b : Bound) (own : is_bound_as bound.OwnNam
   no_declaration : (path : List Node) (n : Node) → is_bound_as bound.OwnName (bound_by_declaration s x path n) ≡ false
   no_declaration path n = either (language.is_block_function s x path)
     where
-      either : (t : Bool) → is_bound_as bound.OwnName (cond t (bound_in bound.Function (innermost (environments x path)) (variable_environment (environments x path) ∷ []) (passed (environments x path)) n) (bound_here bound.Function (environments x path) n)) ≡ false
+      either : (t : Bool) → is_bound_as bound.OwnName (cond t (bound_identifier bound.Function (innermost (environments x path)) (variable_environment (environments x path) ∷ []) (passed (environments x path)) n) (bound_here bound.Function (environments x path) n)) ≡ false
       either true = refl
       either false = refl
 
@@ -86,12 +86,12 @@ module _ (s : SourceType) (x : Node) (b : Bound) (own : is_bound_as bound.OwnNam
       e : Environment
       e = record { kind = environment.OwnName; maker = x.node_id }
 
-      go : (t : Bool) → is_statement x ≡ t → Among b (map (cond t (bound_by_declaration s x path) (bound_in bound.OwnName e [] [])) (names_at role.Id x)) → IsNamed x b
+      go : (t : Bool) → is_statement x ≡ t → Among b (map (cond t (bound_by_declaration s x path) (bound_identifier bound.OwnName e [] [])) (names_at role.Id x)) → IsNamed x b
       go true w c =
           let (n, i, q) = among_map (bound_by_declaration s x path) (names_at role.Id x) b c in
           other (bound_by_declaration s x path n) q (no_declaration path n)
       go false w c =
-          let (n, i, q) = among_map (bound_in bound.OwnName e [] []) (names_at role.Id x) b c in
+          let (n, i, q) = among_map (bound_identifier bound.OwnName e [] []) (names_at role.Id x) b c in
           record { expression = w; sort = inl (k, sym (ap (λ z. z.environment) q)); alone = sym (ap (λ z. z.also) q); identifier = n; among = i; names = ap (λ z. z.name) q; is = ap (λ z. z.identifier) q }
 
   class : (path : List Node) → x.kind ≡ kind.Class → Among b (bound_by_class x path) → IsNamed x b
@@ -100,12 +100,12 @@ module _ (s : SourceType) (x : Node) (b : Bound) (own : is_bound_as bound.OwnNam
       e : Environment
       e = record { kind = environment.Class; maker = x.node_id }
 
-      go : (t : Bool) → is_statement x ≡ t → Among b (map (cond t (bound_in bound.Lexical (innermost (environments x path)) (e ∷ []) []) (bound_in bound.OwnName e [] [])) (names_at role.Id x)) → IsNamed x b
+      go : (t : Bool) → is_statement x ≡ t → Among b (map (cond t (bound_identifier bound.Lexical (innermost (environments x path)) (e ∷ []) []) (bound_identifier bound.OwnName e [] [])) (names_at role.Id x)) → IsNamed x b
       go true w c =
-          let (n, i, q) = among_map (bound_in bound.Lexical (innermost (environments x path)) (e ∷ []) []) (names_at role.Id x) b c in
-          other (bound_in bound.Lexical (innermost (environments x path)) (e ∷ []) [] n) q refl
+          let (n, i, q) = among_map (bound_identifier bound.Lexical (innermost (environments x path)) (e ∷ []) []) (names_at role.Id x) b c in
+          other (bound_identifier bound.Lexical (innermost (environments x path)) (e ∷ []) [] n) q refl
       go false w c =
-          let (n, i, q) = among_map (bound_in bound.OwnName e [] []) (names_at role.Id x) b c in
+          let (n, i, q) = among_map (bound_identifier bound.OwnName e [] []) (names_at role.Id x) b c in
           record { expression = w; sort = inr (k, sym (ap (λ z. z.environment) q)); alone = sym (ap (λ z. z.also) q); identifier = n; among = i; names = ap (λ z. z.name) q; is = ap (λ z. z.identifier) q }
 
   catch : (path patterns : List Node) → Among b (flat_map (bound_by_catch (environments x path)) patterns) → IsNamed x b
@@ -117,7 +117,7 @@ module _ (s : SourceType) (x : Node) (b : Bound) (own : is_bound_as bound.OwnNam
       go true n c = names_here bound.CatchName (environments x path) (bound_names n) (λ m. refl) c
       go false n c = names_here bound.Lexical (environments x path) (bound_names n) (λ m. refl) c
 
-  pub is_named : (k : AstType) (path : List Node) → x.kind ≡ k → Among b (bound_by k s x path) → IsNamed x b
+  pub is_named : (k : AstType) (path : List Node) → x.kind ≡ k → Among b (bound_by_node k s x path) → IsNamed x b
   is_named kind.VariableDeclarator path w a = declarator path a
   is_named kind.Function path w a = function path w a
   is_named kind.Class path w a = class path w a
@@ -146,9 +146,9 @@ declares_name q o b k = go k.sort
   where
     function : q.node.kind ≡ kind.Function → DeclaresName q.node q o k.identifier
     function w =
-        let d : Declaration = declare q.node (own_function_row q o) (has mark.Pure q.node) k.identifier in
-        let all : List Declaration = map (declare q.node (own_function_row q o) (has mark.Pure q.node)) (ids q.node) in
-        let there : Among d all = of_map (declare q.node (own_function_row q o) (has mark.Pure q.node)) (ids q.node) k.identifier k.among in
+        let d : Declaration = declaration_at q.node (own_function_row q o) (has mark.Pure q.node) k.identifier in
+        let all : List Declaration = map (declaration_at q.node (own_function_row q o) (has mark.Pure q.node)) (ids q.node) in
+        let there : Among d all = of_map (declaration_at q.node (own_function_row q o) (has mark.Pure q.node)) (ids q.node) k.identifier k.among in
         record {
           declaration = d;
           told = subst (λ i. Among d (declared_inside i q o)) (sym w) (subst (λ t. Among d (cond t [] all)) (sym k.expression) there);
@@ -161,9 +161,9 @@ declares_name q o b k = go k.sort
 
     class : q.node.kind ≡ kind.Class → DeclaresName q.node q o k.identifier
     class w =
-        let d : Declaration = declare q.node (class_row q (o ∷ [])) false k.identifier in
-        let all : List Declaration = map (declare q.node (class_row q (o ∷ [])) false) (ids q.node) in
-        let there : Among d all = of_map (declare q.node (class_row q (o ∷ [])) false) (ids q.node) k.identifier k.among in
+        let d : Declaration = declaration_at q.node (class_row q (o ∷ [])) false k.identifier in
+        let all : List Declaration = map (declaration_at q.node (class_row q (o ∷ [])) false) (ids q.node) in
+        let there : Among d all = of_map (declaration_at q.node (class_row q (o ∷ [])) false) (ids q.node) k.identifier k.among in
         record {
           declaration = d;
           told = subst (λ i. Among d (declared_inside i q o)) (sym w) (subst (λ t. Among d (cond t [] all)) (sym k.expression) there);

@@ -8,7 +8,7 @@ use Rattle.semantic_syntax.specs.Sets.{union}
 use Rattle.semantic_syntax.specs.declared.symbol_flags.TheConstants.SymbolFlags as symbol
 use Rattle.semantic_tree.specs.Views.{is, has, is_with_text, children_of}
 use Rattle.semantic_tree.specs.declared.node.Node.{Node}
-use Rattle.semantic_model.specs.Binder.{Row, declare, declare_here, variable_row, ambient_if, variables_under, is_pure_declarator, is_statement, is_special, function_row, is_block_function, own_function_row, class_row, ids, parameter_excluded, parameters_under, catch_names, import_flags, declared_by, declared_inside}
+use Rattle.semantic_model.specs.Binder.{BinderRow, declaration_at, declare_here, variable_row, ambient_if, variables_under, is_pure_declarator, is_statement, is_special, function_row, is_block_function, own_function_row, class_row, ids, parameter_excluded, parameters_under, catch_names, import_flags, declared_by, declared_inside}
 use Rattle.semantic_model.specs.Declaration.{caught, Declaration, here}
 use Rattle.semantic_model.specs.Declaration as declaration
 use Rattle.semantic_model.specs.Names.{bound_names, names_at}
@@ -48,7 +48,7 @@ module _ (F : ℕ → Type 0) where
   flags-append [] es h k = k
   flags-append (d ∷ ds) es h k = (h.0, flags-append ds es h.1 k)
 
-  pub flags_of_names : (node : Node) (row : Row) (is_pure : Bool) (names : List Node) → F row.flags → AllHaveFlags (map (declare node row is_pure) names)
+  pub flags_of_names : (node : Node) (row : BinderRow) (is_pure : Bool) (names : List Node) → F row.flags → AllHaveFlags (map (declaration_at node row is_pure) names)
   flags_of_names node row is_pure [] h = tt
   flags_of_names node row is_pure (x ∷ xs) h = (h, flags_of_names node row is_pure xs h)
 
@@ -72,10 +72,10 @@ module _ (F : ℕ → Type 0) where
     catches p [] = tt
     catches p (x ∷ xs) = flags-append (catch_names p x) (flat_map (catch_names p) xs) (go (is kind.BindingIdentifier x)) (catches p xs)
       where
-        row : Row
+        row : BinderRow
         row = record { flags = union symbol.FunctionScopedVariable.bits symbol.CatchVariable.bits; excluded = 0; how = caught; route = here p.chain }
 
-        go : (b : Bool) → AllHaveFlags (if b then declare p.node row false x ∷ [] else declare_here p (union symbol.BlockScopedVariable.bits symbol.CatchVariable.bits) symbol.BlockScopedVariableExcludes.bits (bound_names x))
+        go : (b : Bool) → AllHaveFlags (if b then declaration_at p.node row false x ∷ [] else declare_here p (union symbol.BlockScopedVariable.bits symbol.CatchVariable.bits) symbol.BlockScopedVariableExcludes.bits (bound_names x))
         go true = (h.catch_name, tt)
         go false = names_here p (union symbol.BlockScopedVariable.bits symbol.CatchVariable.bits) symbol.BlockScopedVariableExcludes.bits (bound_names x) h.catch_pattern
 
@@ -86,14 +86,14 @@ module _ (F : ℕ → Type 0) where
         flags s true q = rw (q, s) (h.function (has mark.Declare p.node) (is_special p.node))
         flags s false q = rw (q, s) (h.function (has mark.Declare p.node) (is_special p.node))
 
-        go : (b : Bool) → is_statement p.node ≡ b → AllHaveFlags (cond b (map (declare p.node (function_row p) (has mark.Pure p.node)) (ids p.node)) [])
+        go : (b : Bool) → is_statement p.node ≡ b → AllHaveFlags (cond b (map (declaration_at p.node (function_row p) (has mark.Pure p.node)) (ids p.node)) [])
         go true s = flags_of_names p.node (function_row p) (has mark.Pure p.node) (ids p.node) (flags s (is_block_function p) refl)
         go false s = tt
 
     classes : (p : Place) → AllHaveFlags (declared_by kind.Class p)
     classes p = go (is_statement p.node)
       where
-        go : (b : Bool) → AllHaveFlags (cond b (map (declare p.node (class_row p p.chain) false) (ids p.node)) [])
+        go : (b : Bool) → AllHaveFlags (cond b (map (declaration_at p.node (class_row p p.chain) false) (ids p.node)) [])
         go true = flags_of_names p.node (class_row p p.chain) false (ids p.node) (h.of_class (has mark.Declare p.node))
         go false = tt
 
@@ -132,12 +132,12 @@ module _ (F : ℕ → Type 0) where
     pub flags_opening : ((a s : Bool) → F (flags_of_function a false s)) → (k : AstType) (p : Place) (own : OpenScope) → is_ecmascript_kind k ≡ true → AllHaveFlags (declared_inside k p own)
     flags_opening f kind.Function p own i = go (is_statement p.node) refl
       where
-        go : (b : Bool) → is_statement p.node ≡ b → AllHaveFlags (cond b [] (map (declare p.node (own_function_row p own) (has mark.Pure p.node)) (ids p.node)))
+        go : (b : Bool) → is_statement p.node ≡ b → AllHaveFlags (cond b [] (map (declaration_at p.node (own_function_row p own) (has mark.Pure p.node)) (ids p.node)))
         go true e = tt
         go false e = flags_of_names p.node (own_function_row p own) (has mark.Pure p.node) (ids p.node) (rw e (f (has mark.Declare p.node) (is_special p.node)))
     flags_opening f kind.Class p own i = go (is_statement p.node)
       where
-        go : (b : Bool) → AllHaveFlags (cond b [] (map (declare p.node (class_row p (own ∷ [])) false) (ids p.node)))
+        go : (b : Bool) → AllHaveFlags (cond b [] (map (declaration_at p.node (class_row p (own ∷ [])) false) (ids p.node)))
         go true = tt
         go false = flags_of_names p.node (class_row p (own ∷ [])) false (ids p.node) (h.of_class (has mark.Declare p.node))
     flags_opening f kind.TSMappedType p own i = absurd cc

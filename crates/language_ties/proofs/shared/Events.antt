@@ -7,10 +7,10 @@ use Rattle.semantic_syntax.specs.Sets.{meets, union}
 use Rattle.semantic_syntax.specs.declared.symbol_flags.TheConstants.SymbolFlags as symbol
 use Rattle.semantic_tree.specs.Views.{has}
 use Rattle.semantic_tree.specs.declared.node.Node.{Node}
-use Rattle.semantic_model.specs.Binder.{Row, declare, ambient_if, is_statement, is_special, own_function_row, class_row, ids, declared_by, declared_inside, declared_on_entering, declared_on_opening}
+use Rattle.semantic_model.specs.Binder.{BinderRow, declaration_at, ambient_if, is_statement, is_special, own_function_row, class_row, ids, declared_by, declared_inside, declared_on_entering, declared_on_opening}
 use Rattle.semantic_model.specs.Declaration.{How, plain, hoisted, moved, caught, Declaration}
 use Rattle.semantic_model.specs.EachStep.{EachStep}
-use Rattle.semantic_model.specs.Event.{Event, declares, takes_over, ends_header, is_barred, staying, placed, placed_by, is_catch_body, declares_all, taken_over, events_of}
+use Rattle.semantic_model.specs.Event.{Event, declares, takes_over, ends_header, is_barred, staying_declaration, placed, placed_by, is_catch_body, declares_all, taken_over, events_of}
 use Rattle.semantic_model.specs.Place.{Place, OpenScope, innermost, outside}
 use Rattle.semantic_model.specs.Step.{Step, entering, opening, header_ending, closing, leaving}
 use Rattle.semantic_model.proofs.fold.BodyChains.{block_is}
@@ -93,7 +93,7 @@ placed_naming hoisted ds d = refl
 placed_naming caught ds d = refl
 placed_naming moved ds d = go (is_barred ds d (outside d.route.passed))
   where
-    go : (b : Bool) → is_own_name (if b then staying d else d) ≡ is_own_name d
+    go : (b : Bool) → is_own_name (if b then staying_declaration d else d) ≡ is_own_name d
     go true = refl
     go false = refl
 
@@ -103,8 +103,8 @@ placed_below n hoisted ds d h = h
 placed_below n caught ds d h = h
 placed_below n moved ds d h = go (is_barred ds d (outside d.route.passed))
   where
-    go : (b : Bool) → RouteBelow n (if b then staying d else d)
-    go true = staying_below n d (staying d) h refl
+    go : (b : Bool) → RouteBelow n (if b then staying_declaration d else d)
+    go true = staying_below n d (staying_declaration d) h refl
     go false = h
 
 numbered_visible : (n : ℕ) (d : Declaration) → RouteBelow n d → is_own_name d ≡ false → IsNumbered n n n n d
@@ -116,12 +116,12 @@ declares_numbered n ds (d ∷ new) es h v k = (n, n, numbered_visible n (placed 
 
 -- ---- of a scope that opens
 
-own_numbered : (n : ℕ) (ds : List Declaration) (p : Place) (row : Row) (b : Bool) (names : List Node) (es : List Event) → row.how ≡ plain → row.route.target.number ≡ n → meets row.flags symbol.FunctionExpression.bits ≡ true → AllNumbered n (suc n) es → AllNumbered n (suc n) (declares_all ds (map (declare p.node row b) names) ++ es)
+own_numbered : (n : ℕ) (ds : List Declaration) (p : Place) (row : BinderRow) (b : Bool) (names : List Node) (es : List Event) → row.how ≡ plain → row.route.target.number ≡ n → meets row.flags symbol.FunctionExpression.bits ≡ true → AllNumbered n (suc n) es → AllNumbered n (suc n) (declares_all ds (map (declaration_at p.node row b) names) ++ es)
 own_numbered n ds p row b [] es e t f k = k
 own_numbered n ds p row b (x ∷ names) es e t f k = (n, suc n, one, own_numbered n ds p row b names es e t f k)
   where
     d : Declaration
-    d = declare p.node row b x
+    d = declaration_at p.node row b x
 
     same : placed ds d ≡ d
     same = ap (λ how. placed_by how ds d) e
@@ -137,23 +137,23 @@ own_numbered n ds p row b (x ∷ names) es e t f k = (n, suc n, one, own_numbere
     })
 
 class_numbered : (n : ℕ) (ds : List Declaration) (p : Place) (own : OpenScope) (a : Bool) (names : List Node) (es : List Event) → own.number ≡ n → AllNumbered (suc n) (suc n) es
-    → AllNumbered (suc n) (suc n) (declares_all ds (map (declare p.node (class_row p (own ∷ [])) false) names) ++ es)
+    → AllNumbered (suc n) (suc n) (declares_all ds (map (declaration_at p.node (class_row p (own ∷ [])) false) names) ++ es)
 class_numbered n ds p own a [] es t k = k
 class_numbered n ds p own a (x ∷ names) es t k =
-    (suc n, suc n, numbered_visible (suc n) (declare p.node (class_row p (own ∷ [])) false x) (record { target = omega (arith, t); passed = λ c q. absurd cc; stands = omega (arith, t) }) (class_visible (has mark.Declare p.node)), class_numbered n ds p own a names es t k)
+    (suc n, suc n, numbered_visible (suc n) (declaration_at p.node (class_row p (own ∷ [])) false x) (record { target = omega (arith, t); passed = λ c q. absurd cc; stands = omega (arith, t) }) (class_visible (has mark.Declare p.node)), class_numbered n ds p own a names es t k)
 
 opening_numbered : (k : AstType) (n : ℕ) (ds : List Declaration) (p : Place) (own : OpenScope) (es : List Event) → is_ecmascript_kind k ≡ true → own.number ≡ n → AllNumbered (suc n) (suc n) es → AllNumbered n n (declares_all ds (declared_inside k p own) ++ es)
 opening_numbered kind.Function n ds p own es i t h = go (is_statement p.node) refl
   where
-    go : (b : Bool) → is_statement p.node ≡ b → AllNumbered n n (declares_all ds (cond b [] (map (declare p.node (own_function_row p own) (has mark.Pure p.node)) (ids p.node))) ++ es)
+    go : (b : Bool) → is_statement p.node ≡ b → AllNumbered n n (declares_all ds (cond b [] (map (declaration_at p.node (own_function_row p own) (has mark.Pure p.node)) (ids p.node))) ++ es)
     go true e = numbered_fewer n n (suc n) (suc n) es (omega arith) (omega arith) h
-    go false e = numbered_fewer n n n (suc n) (declares_all ds (map (declare p.node (own_function_row p own) (has mark.Pure p.node)) (ids p.node)) ++ es) (omega arith) (omega arith)
+    go false e = numbered_fewer n n n (suc n) (declares_all ds (map (declaration_at p.node (own_function_row p own) (has mark.Pure p.node)) (ids p.node)) ++ es) (omega arith) (omega arith)
         (own_numbered n ds p (own_function_row p own) (has mark.Pure p.node) (ids p.node) es refl t (rw e (function_hidden (has mark.Declare p.node) false (is_special p.node))) (numbered_fewer n (suc n) (suc n) (suc n) es (omega arith) (omega arith) h))
 opening_numbered kind.Class n ds p own es i t h = go (is_statement p.node)
   where
-    go : (b : Bool) → AllNumbered n n (declares_all ds (cond b [] (map (declare p.node (class_row p (own ∷ [])) false) (ids p.node))) ++ es)
+    go : (b : Bool) → AllNumbered n n (declares_all ds (cond b [] (map (declaration_at p.node (class_row p (own ∷ [])) false) (ids p.node))) ++ es)
     go true = numbered_fewer n n (suc n) (suc n) es (omega arith) (omega arith) h
-    go false = numbered_fewer n n (suc n) (suc n) (declares_all ds (map (declare p.node (class_row p (own ∷ [])) false) (ids p.node)) ++ es) (omega arith) (omega arith) (class_numbered n ds p own true (ids p.node) es t h)
+    go false = numbered_fewer n n (suc n) (suc n) (declares_all ds (map (declaration_at p.node (class_row p (own ∷ [])) false) (ids p.node)) ++ es) (omega arith) (omega arith) (class_numbered n ds p own true (ids p.node) es t h)
 opening_numbered kind.TSMappedType n ds p own es i t h = absurd cc
 opening_numbered _ n ds p own es i t h = numbered_fewer n n (suc n) (suc n) es (omega arith) (omega arith) h
 

@@ -15,7 +15,7 @@ use Rattle.semantic_model.specs.Declaration.{Declaration, Route, here, passed_be
 use Rattle.semantic_model.specs.Inside.{is_inside, is_in_header, is_parameter_decorator}
 use Rattle.semantic_model.specs.Place.{Place, OpenScope, innermost, outside}
 use Rattle.semantic_model.specs.ScopeKind.{opened_scope}
-use Rattle.semantic_model.specs.Step.{Step, entering, opening, header_ending, closing, leaving, steps_below, steps, root_place, scope_at, next_at, child_place, chain_within}
+use Rattle.semantic_model.specs.Step.{Step, entering, opening, header_ending, closing, leaving, steps_below, steps, root_place, scope_at, next_at, child_place, child_scopes}
 use Rattle.semantic_model.proofs.fold.EachDeclared.{EachDeclared, each_on_entering}
 use Rattle.semantic_model.proofs.steps.Opened.{openings, next_opened, rest_opened}
 use Rattle.semantic_model.proofs.steps.Turn.{Turn, turn_at}
@@ -164,7 +164,7 @@ outside_below : (n : ℕ) (cs : List OpenScope) → AllBelow n cs → AllBelow n
 outside_below n [] h = tt
 outside_below n (s ∷ ss) h = h.1
 
-within_below : (n : ℕ) (p : Place) (r : Role) (own : Option OpenScope) → AllBelow n p.chain → OwnBelow n own → AllBelow n (chain_within p r own)
+within_below : (n : ℕ) (p : Place) (r : Role) (own : Option OpenScope) → AllBelow n p.chain → OwnBelow n own → AllBelow n (child_scopes p r own)
 within_below n p r None a o = a
 within_below n p r (Some s) a o = go (is_inside p.node.kind r)
   where
@@ -175,7 +175,7 @@ within_below n p r (Some s) a o = go (is_inside p.node.kind r)
 child_below : (n : ℕ) (p : Place) (own : Option OpenScope) (cursor : ℕ) (r : Role) (node : Node) → AllBelow n p.chain → OwnBelow n own → AllBelow n (child_place p own cursor r node).chain
 child_below n p own cursor r node a o = go (is_parameter_decorator p.node.kind r)
   where
-    go : (b : Bool) → AllBelow n (cond b (outside p.chain) (chain_within p r own))
+    go : (b : Bool) → AllBelow n (cond b (outside p.chain) (child_scopes p r own))
     go true = outside_below n p.chain a
     go false = within_below n p r own a o
 

@@ -26,7 +26,7 @@ use Rattle.semantic_model.proofs.fold.EachDeclared.{EachDeclared, each_on_enteri
 use Rattle.semantic_model.proofs.fold.Orders.{HasForm, table_of, root_body, steps_in}
 use Rattle.semantic_model.proofs.form.Shape.{has_form}
 use Rattle.semantic_model.proofs.lists.Members.{among_left, among_right}
-use Rattle.language_ties.specs.Bound.{Bound, bound_in, bound_by, is_bound_as}
+use Rattle.language_ties.specs.Bound.{Bound, bound_identifier, bound_by_node, is_bound_as}
 use Rattle.language_ties.specs.EcmaScript.{is_ecmascript_kind, is_ecmascript}
 use Rattle.language_ties.specs.OneSymbol.{IsBoundByNode, EnvironmentsHaveOneSymbol}
 use Rattle.language_ties.specs.SharedSymbols.{is_own_name, HasHomesSymbol, ShareSymbols}
@@ -76,19 +76,19 @@ told_too (d ∷ ds) (c ∷ bs) h b (inr a) =
 -- ---- declarations of a node
 
 -- what isn't an own name is declared on entering the node
-own_names : (b : Bool) (x : Node) (f : Node → Bound) (c : Bound) (names : List Node) → Among c (map (cond b f (bound_in bound.OwnName (record { kind = environment.OwnName; maker = x.node_id }) [] [])) names) → is_bound_as bound.OwnName c ≡ false → b ≡ true
+own_names : (b : Bool) (x : Node) (f : Node → Bound) (c : Bound) (names : List Node) → Among c (map (cond b f (bound_identifier bound.OwnName (record { kind = environment.OwnName; maker = x.node_id }) [] [])) names) → is_bound_as bound.OwnName c ≡ false → b ≡ true
 own_names true x f c names a n = refl
 own_names false x f c [] a n = absurd a
 own_names false x f c (y ∷ ys) (inl e) n = let w : true ≡ false = ap (is_bound_as bound.OwnName) e ∙ n in absurd cc
 own_names false x f c (y ∷ ys) (inr a) n = own_names false x f c ys a n
 
-class_names : (b : Bool) (x : Node) (f : Node → Bound) (c : Bound) (names : List Node) → Among c (map (cond b f (bound_in bound.OwnName (record { kind = environment.Class; maker = x.node_id }) [] [])) names) → is_bound_as bound.OwnName c ≡ false → b ≡ true
+class_names : (b : Bool) (x : Node) (f : Node → Bound) (c : Bound) (names : List Node) → Among c (map (cond b f (bound_identifier bound.OwnName (record { kind = environment.Class; maker = x.node_id }) [] [])) names) → is_bound_as bound.OwnName c ≡ false → b ≡ true
 class_names true x f c names a n = refl
 class_names false x f c [] a n = absurd a
 class_names false x f c (y ∷ ys) (inl e) n = let w : true ≡ false = ap (is_bound_as bound.OwnName) e ∙ n in absurd cc
 class_names false x f c (y ∷ ys) (inr a) n = class_names false x f c ys a n
 
-none_inside : (s : _) (p : Place) (own : OpenScope) (c : Bound) (k : AstType) → is_ecmascript_kind k ≡ true → Among c (bound_by k s p.node p.path) → is_bound_as bound.OwnName c ≡ false → declared_inside k p own ≡ []
+none_inside : (s : _) (p : Place) (own : OpenScope) (c : Bound) (k : AstType) → is_ecmascript_kind k ≡ true → Among c (bound_by_node k s p.node p.path) → is_bound_as bound.OwnName c ≡ false → declared_inside k p own ≡ []
 none_inside s p own c kind.Function i a n = rw (own_names (is_statement p.node) p.node _ c _ a n) refl
 none_inside s p own c kind.Class i a n = rw (class_names (is_statement p.node) p.node _ c _ a n) refl
 none_inside s p own c kind.TSMappedType i a n = absurd cc
@@ -135,7 +135,7 @@ module _ (p : Tree) (h : first_fault p ≡ None) (e : is_ecmascript p ≡ true) 
     pub place : Place
     pub entered : Among (entering place) (steps p)
     pub told : Among declaration (declared_on_entering place)
-    pub binds : Among b (bound_by place.node.kind p.source_type place.node place.path)
+    pub binds : Among b (bound_by_node place.node.kind p.source_type place.node place.path)
     pub unmoved : declaration.how ≡ moved → ⊥
     pub bodied : IsOwn (table_of p) place.chain declaration.route.target
 
@@ -162,10 +162,10 @@ module _ (p : Tree) (h : first_fault p ≡ None) (e : is_ecmascript p ≡ true) 
       let own : OpenScope = opened_scope q 0 in
       let known : IsKnown q = known_at q c.entered in
       let plain_place : IsPlainPlace q = plain_at q c.entered in
-      let told : map told_by_declaration (declared_on_opening q own ++ declared_on_entering q) ≡ map told_by_bound (bound_by q.node.kind p.source_type q.node q.path) =
+      let told : map told_by_declaration (declared_on_opening q own ++ declared_on_entering q) ≡ map told_by_bound (bound_by_node q.node.kind p.source_type q.node q.path) =
       each_at (Declares p.source_type) (steps p) (entering q) (declarations_are_bound p h e) c.entered c.apart_from_with c.no_leaving in
       let empty : declared_on_opening q own ≡ [] = none_inside p.source_type q own b q.node.kind known.ecmascript c.binds c.no_own_name in
-      let (d, a, t) = told_too (declared_on_entering q) (bound_by q.node.kind p.source_type q.node q.path) (subst (λ os. map told_by_declaration (os ++ declared_on_entering q) ≡ map told_by_bound (bound_by q.node.kind p.source_type q.node q.path)) empty told) b c.binds in
+      let (d, a, t) = told_too (declared_on_entering q) (bound_by_node q.node.kind p.source_type q.node q.path) (subst (λ os. map told_by_declaration (os ++ declared_on_entering q) ≡ map told_by_bound (bound_by_node q.node.kind p.source_type q.node q.path)) empty told) b c.binds in
       let stays : placed ds d ≡ d = placed_stays ds d.how d refl (declared_at (λ i. i.how ≡ moved → ⊥) (declared_on_entering q) d (unmoved b c) a) in
       let event : Among (declares d) (events_of ds (entering q)) = subst (λ i. Among (declares i) (events_of ds (entering q))) stays (of_map (λ i. declares (placed ds i)) (declared_on_entering q) d a) in
       let chain_in : AllInTable (table_of p) q.chain = entered_chain q (steps p) (steps_in p form) c.entered in

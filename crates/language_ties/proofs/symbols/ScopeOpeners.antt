@@ -15,7 +15,7 @@ use Rattle.semantic_model.specs.EachStep.{EachStep}
 use Rattle.semantic_model.specs.Inside.{is_inside, is_in_header, is_parameter_decorator}
 use Rattle.semantic_model.specs.Place.{Place, OpenScope, innermost, outside}
 use Rattle.semantic_model.specs.ScopeKind.{opened_scope}
-use Rattle.semantic_model.specs.Step.{Step, entering, opening, header_ending, closing, leaving, steps_below, steps, root_place, opening_at, scope_at, child_place, chain_within}
+use Rattle.semantic_model.specs.Step.{Step, entering, opening, header_ending, closing, leaving, steps_below, steps, root_place, opening_at, scope_at, child_place, child_scopes}
 use Rattle.semantic_model.proofs.fold.EachDeclared.{EachDeclared, each_on_entering}
 use Rattle.semantic_model.proofs.steps.EachStep.{each_of_node, each_of_turn}
 use Rattle.semantic_model.proofs.steps.OpenedFrom.{OpenedFrom, OpenedRound, opened_left, opened_round}
@@ -62,7 +62,7 @@ module _ (table : List ℕ) where
   outside_opened [] h = tt
   outside_opened (s ∷ ss) h = h.1
 
-  within_opened : (p : Place) (r : Role) (own : Option OpenScope) → AllOpened p.chain → OwnOpened own → AllOpened (chain_within p r own)
+  within_opened : (p : Place) (r : Role) (own : Option OpenScope) → AllOpened p.chain → OwnOpened own → AllOpened (child_scopes p r own)
   within_opened p r None a o = a
   within_opened p r (Some s) a o = go (is_inside p.node.kind r)
     where
@@ -73,7 +73,7 @@ module _ (table : List ℕ) where
   child_opened : (p : Place) (own : Option OpenScope) (cursor : ℕ) (r : Role) (node : Node) → AllOpened p.chain → OwnOpened own → AllOpened (child_place p own cursor r node).chain
   child_opened p own cursor r node a o = go (is_parameter_decorator p.node.kind r)
     where
-      go : (t : Bool) → AllOpened (cond t (outside p.chain) (chain_within p r own))
+      go : (t : Bool) → AllOpened (cond t (outside p.chain) (child_scopes p r own))
       go true = outside_opened p.chain a
       go false = within_opened p r own a o
 

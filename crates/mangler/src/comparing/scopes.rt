@@ -3,7 +3,7 @@ ghost use Rattle.std.specs.Prelude.{◌≡◌, ◌<◌, length, map, [], slice_i
 ghost use Rattle.std.specs.Cmp.Lexicographic.{pointwise};
 ghost use Rattle.std.specs.Str.{chars};
 ghost use Rattle.semantic_syntax.specs.Reading.{scope_of, bindings_of};
-ghost use Rattle.mangle_model.specs.Assignment.{listed, name_or};
+ghost use Rattle.mangle_model.specs.Assignment.{assignment_of, name_or};
 ghost use Rattle.mangle_model.specs.Alike.{renamed_binding};
 ghost use Rattle.mangle_model.specs.Tests.{same_binding, same_scope};
 ghost use Rattle.scoping_rows.specs.Names.{name_of};
@@ -41,7 +41,7 @@ pub fn are_same_scopes(one: &Scoping, other: &Scoping) -> bool
 
 /// The new name of a symbol, else the old one.
 fn name_or<'a>(names: &'a NewNames, symbol: SymbolId, old: Ident<'a>) -> &'a str
-    ensures { chars result.now ≡ name_or (listed names.now symbol) (name_of old.entry) }
+    ensures { chars result.now ≡ name_or (assignment_of names.now symbol) (name_of old.entry) }
 {
     match names.get(symbol) {
         Some(name) => name,
@@ -54,7 +54,7 @@ fn binds_the_same(names: &NewNames, one: &Scoping, other: &Scoping, scope: Scope
     requires one { scope < length one.now.scopes }
     requires other { scope < length other.now.scopes }
     ensures { result ≡ pointwise same_binding (bindings_of other.now scope)
-        (map (renamed_binding (listed names.now)) (bindings_of one.now scope)) }
+        (map (renamed_binding (assignment_of names.now)) (bindings_of one.now scope)) }
 {
     let mut theirs = other.get_bindings(scope).iter();
     for (name, symbol) in one.get_bindings(scope).iter() {
@@ -71,7 +71,7 @@ fn binds_the_same(names: &NewNames, one: &Scoping, other: &Scoping, scope: Scope
 /// Whether all scopes bind the same symbols, by their new names.
 pub fn are_same_bindings(names: &NewNames, one: &Scoping, other: &Scoping) -> bool
     ensures { result ≡ pointwise (pointwise same_binding) other.now.bindings
-        (map (map (renamed_binding (listed names.now))) one.now.bindings) }
+        (map (map (renamed_binding (assignment_of names.now))) one.now.bindings) }
 {
     one.attest();
     other.attest();

@@ -6,7 +6,7 @@ ghost use Rattle.std.specs.Str.{chars};
 ghost use Rattle.semantic_syntax.specs.Reading.{symbol_of};
 ghost use Rattle.semantic_model.specs.Moment.{ListsBeginWithOwn};
 ghost use Rattle.mangle_model.specs.Alike.{renamed_symbols};
-ghost use Rattle.mangle_model.specs.Assignment.{listed, name_or};
+ghost use Rattle.mangle_model.specs.Assignment.{assignment_of, name_or};
 ghost use Rattle.mangle_model.specs.Tests.{same_declaration, same_symbol};
 
 use super::values::{are_same_declarations, is_same_span, is_same_text};
@@ -17,7 +17,7 @@ use semantic_syntax::SymbolId;
 /// The name that the symbol has then.
 fn name_then<'a>(names: &'a NewNames, scoping: &'a Scoping, symbol: SymbolId) -> &'a str
     requires { symbol < length scoping.now.symbols }
-    ensures { chars result.now ≡ name_or (listed names.now symbol)
+    ensures { chars result.now ≡ name_or (assignment_of names.now symbol)
         (symbol_of scoping.now symbol).name }
 {
     match names.get(symbol) {
@@ -49,7 +49,7 @@ fn is_same_symbol(names: &NewNames, one: &Scoping, other: &Scoping, symbol: Symb
     requires others { ListsBeginWithOwn other.now }
     ensures { result ≡ same_symbol (symbol_of other.now symbol)
         (record (symbol_of one.now symbol) {
-          name = name_or (listed names.now symbol) (symbol_of one.now symbol).name;
+          name = name_or (assignment_of names.now symbol) (symbol_of one.now symbol).name;
         }) }
 {
     is_same_text(other.symbol_name(symbol), name_then(names, one, symbol))
@@ -65,7 +65,7 @@ pub fn are_same_symbols(names: &NewNames, one: &Scoping, other: &Scoping) -> boo
     requires own { ListsBeginWithOwn one.now }
     requires others { ListsBeginWithOwn other.now }
     ensures { result ≡ pointwise same_symbol other.now.symbols
-        (renamed_symbols (listed names.now) 0 one.now.symbols) }
+        (renamed_symbols (assignment_of names.now) 0 one.now.symbols) }
 {
     if other.symbols_len() != one.symbols_len() {
         return false;

@@ -4,7 +4,7 @@ ghost use Rattle.std.specs.List.{AllByRecursion};
 ghost use Rattle.scoping_rows.specs.Row.{row_moved};
 ghost use Rattle.scoping_rows.specs.Names.{name_of};
 ghost use Rattle.semantic_syntax.specs.Reading.{symbol_of, bindings_of};
-ghost use Rattle.semantic_syntax.specs.Writing.{with_symbol, moved, taken_over};
+ghost use Rattle.semantic_syntax.specs.Writing.{with_symbol, name_moved, bindings_taken_over};
 
 use super::Scoping;
 use super::rows::{own_number, set_home};
@@ -33,7 +33,7 @@ impl Scoping {
     ) -> Result<(), AllocError>
         requires from { from < length self.old.scopes }
         requires to { to < length self.old.scopes }
-        ensures ok { OnOk result (self.new ≡ moved self.old from to (name_of name.entry)) }
+        ensures ok { OnOk result (self.new ≡ name_moved self.old from to (name_of name.entry)) }
         ensures err { OnErr result (self.new ≡ self.old) }
     {
         match self.names.find(name) {
@@ -54,7 +54,8 @@ impl Scoping {
         requires to { to < length self.old.scopes }
         requires symbol { symbol < length self.old.symbols }
         ensures ok { OnOk result
-            (self.new ≡ with_symbol (moved self.old from to (symbol_of self.old symbol).name) symbol
+            (self.new ≡ with_symbol
+            (name_moved self.old from to (symbol_of self.old symbol).name) symbol
             (record (symbol_of self.old symbol) { scope = to })) }
         ensures err { OnErr result (self.new ≡ self.old) }
     {
@@ -70,7 +71,7 @@ impl Scoping {
         requires to { to < length self.old.scopes }
         requires apart { (from == to) ≡ false }
         requires empty { bindings_of self.old to ≡ [] }
-        ensures ok { OnOk result (self.new ≡ taken_over self.old from to) }
+        ensures ok { OnOk result (self.new ≡ bindings_taken_over self.old from to) }
         ensures err { OnErr result (self.new ≡ self.old) }
     {
         self.bindings.take_over(from, to)?;

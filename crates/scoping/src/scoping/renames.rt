@@ -6,7 +6,7 @@ ghost use Rattle.std.specs.Map.{lookup};
 ghost use Rattle.scoping_rows.specs.Names.{name_of};
 ghost use Rattle.scoping_rows.specs.Row.{row_named};
 ghost use Rattle.semantic_syntax.specs.Reading.{symbol_of, bindings_of};
-ghost use Rattle.semantic_syntax.specs.Writing.{with_symbol, with_name, renamed};
+ghost use Rattle.semantic_syntax.specs.Writing.{with_symbol, with_symbol_name, binding_renamed};
 
 use super::Scoping;
 use super::rows::{own_number, set_name};
@@ -42,7 +42,7 @@ impl Scoping {
         ensures ok { OnOk result
             (self.new
             ≡ record self.old {
-              symbols = fold (with_name (name_of name.entry)) self.old.symbols ids.now;
+              symbols = fold (with_symbol_name (name_of name.entry)) self.old.symbols ids.now;
             }) }
         ensures err { OnErr result (self.new ≡ self.old) }
     {
@@ -64,7 +64,8 @@ impl Scoping {
         requires bound { lookup (bytes_eq (name_of old)) (bindings_of self.old scope)
             ≡ Some symbol }
         ensures ok { OnOk result
-            (self.new ≡ renamed self.old scope symbol (name_of old.entry) (name_of new.entry)) }
+            (self.new ≡ binding_renamed self.old scope symbol (name_of old.entry)
+            (name_of new.entry)) }
         ensures err { OnErr result (self.new ≡ self.old) }
     {
         let new_number = self.names.intern(new)?;
@@ -85,7 +86,8 @@ impl Scoping {
         requires symbol { symbol < length self.old.symbols }
         ensures ok { OnOk result
             (self.new ≡ with_symbol
-            (renamed self.old scope symbol (symbol_of self.old symbol).name (name_of new.entry))
+            (binding_renamed self.old scope symbol (symbol_of self.old symbol).name
+            (name_of new.entry))
             symbol (record (symbol_of self.old symbol) { name = name_of new.entry })) }
         ensures err { OnErr result (self.new ≡ self.old) }
     {

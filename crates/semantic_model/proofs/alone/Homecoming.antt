@@ -7,7 +7,7 @@ use Rattle.semantic_model.specs.Place.{OpenScope, innermost, outside}
 use Rattle.semantic_model.specs.Step.{Step, entering, opening, header_ending, closing, leaving}
 use Rattle.semantic_model.specs.Declaration.{Declaration, How, plain, hoisted, moved, caught, home, scope_it_stands_in, stands_in, body_or}
 use Rattle.semantic_model.specs.Binder.{declared_on_entering, declared_on_opening}
-use Rattle.semantic_model.specs.Event.{Event, declares, takes_over, ends_header, is_barred, staying, placed_by, is_catch_body, declares_all, events_of}
+use Rattle.semantic_model.specs.Event.{Event, declares, takes_over, ends_header, is_barred, staying_declaration, placed_by, is_catch_body, declares_all, events_of}
 use Rattle.semantic_model.proofs.fold.Actions.{StandsInBlock}
 use Rattle.semantic_model.proofs.alone.Homes.{ends_at}
 use Rattle.semantic_model.proofs.fold.BodyChains.{AllStepsIn}
@@ -66,7 +66,7 @@ module _ (table : List (Option ℕ)) (root : slice_get table 0 ≡ Some None) wh
   placed_later caught ds d es e h l = l
   placed_later moved ds d es e h l = go (is_barred ds d (outside d.route.passed))
     where
-      go : (b : Bool) → Later (if b then staying d else d) es
+      go : (b : Bool) → Later (if b then staying_declaration d else d) es
       go true = λ b q. (let w : None ≡ Some b = sym (stays_bodiless d e h) ∙ q in absurd cc)
       go false = l
 

@@ -15,7 +15,7 @@ use Rattle.semantic_model.specs.Place.{Place, OpenScope, innermost, outside}
 use Rattle.semantic_model.specs.Inside.{is_inside, is_in_header}
 use Rattle.semantic_model.specs.ScopeKind.{opened_scope}
 use Rattle.semantic_model.specs.Cursor.{on_entering}
-use Rattle.semantic_model.specs.Step.{Step, entering, leaving, steps_below, steps, root_place, scope_at, child_place, chain_within}
+use Rattle.semantic_model.specs.Step.{Step, entering, leaving, steps_below, steps, root_place, scope_at, child_place, child_scopes}
 use Rattle.semantic_model.proofs.steps.Turn.{Turn, turn_at}
 use Rattle.semantic_model.proofs.form.Clauses.{kind_is, is_nothing, ends_with_block, clauses_end, later_ends}
 use Rattle.semantic_model.proofs.form.ParameterShape.{stands_under, parameters_stand}
@@ -48,7 +48,7 @@ block_inside : (p : Place) (r : Role) → is kind.BlockStatement p.node ≡ true
 block_inside p r h = subst (λ k. is_inside k r ≡ true) (sym (kind_is p.node.kind kind.BlockStatement h)) refl
 
 -- a child in its parent's scope, or around it
-within_follows : (p : Place) (r : Role) (scope : Option OpenScope) (ss : List Step) → (is_inside p.node.kind r ≡ true → scope ≡ None → ⊥) → OwnFact p scope → (is kind.BlockStatement p.node ≡ false → FollowsIn p.chain ss) → (is kind.CatchClause p.node ≡ true → (s : OpenScope) → scope ≡ Some s → taken_in s.number ss ≡ true) → FollowsIn (chain_within p r scope) ss
+within_follows : (p : Place) (r : Role) (scope : Option OpenScope) (ss : List Step) → (is_inside p.node.kind r ≡ true → scope ≡ None → ⊥) → OwnFact p scope → (is kind.BlockStatement p.node ≡ false → FollowsIn p.chain ss) → (is kind.CatchClause p.node ≡ true → (s : OpenScope) → scope ≡ Some s → taken_in s.number ss ≡ true) → FollowsIn (child_scopes p r scope) ss
 within_follows p r None ss is_open own around clause = elim (cases_Bool (is kind.BlockStatement p.node)) [
   | inl t ↦ absurd (is_open (block_inside p r t) refl)
   | inr f ↦ around f

@@ -12,7 +12,7 @@ use Rattle.semantic_model.specs.ScopeKind.{opened_scope}
 use Rattle.semantic_model.specs.Cursor.{on_entering}
 use Rattle.semantic_model.specs.Declaration.{passed_before, first_with, route_from, outward_to}
 use Rattle.semantic_model.specs.Binder.{is_var}
-use Rattle.semantic_model.specs.Step.{Step, entering, opening, header_ending, closing, leaving, steps_below, steps_of, steps, root_place, opening_at, ending_after, scope_at, next_at, child_place, chain_within, cursor_past}
+use Rattle.semantic_model.specs.Step.{Step, entering, opening, header_ending, closing, leaving, steps_below, steps_of, steps, root_place, opening_at, ending_after, scope_at, next_at, child_place, child_scopes, cursor_past}
 use Rattle.semantic_model.proofs.steps.Turn.{Turn, turn_at}
 use Rattle.semantic_model.proofs.steps.TurnCases.{opening_case, ending_case, last_case}
 use Rattle.semantic_model.proofs.steps.EachStep.{EachStep, each_of_node, each_of_turn}
@@ -89,7 +89,7 @@ module _ (v : ℕ → ℕ) where
   outside_near [] h = tt
   outside_near (s ∷ ss) h = h.1
 
-  within_near : (p : Place) (r : Role) (own : Option OpenScope) → AllNear p.chain → OwnNear p own → AllNear (chain_within p r own)
+  within_near : (p : Place) (r : Role) (own : Option OpenScope) → AllNear p.chain → OwnNear p own → AllNear (child_scopes p r own)
   within_near p r None a o = a
   within_near p r (Some s) a o = go (is_inside p.node.kind r)
     where
@@ -100,7 +100,7 @@ module _ (v : ℕ → ℕ) where
   child_near : (p : Place) (own : Option OpenScope) (cursor : ℕ) (r : Role) (node : Node) → AllNear p.chain → OwnNear p own → AllNear (child_place p own cursor r node).chain
   child_near p own cursor r node a o = go (is_parameter_decorator p.node.kind r)
     where
-      go : (t : Bool) → AllNear (cond t (outside p.chain) (chain_within p r own))
+      go : (t : Bool) → AllNear (cond t (outside p.chain) (child_scopes p r own))
       go true = outside_near p.chain a
       go false = within_near p r own a o
 

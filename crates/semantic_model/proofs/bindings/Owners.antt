@@ -4,7 +4,7 @@ use Rattle.std.specs.Prelude.{slice_get}
 use Rattle.std.proofs.lemmas.Bool.Decides.{eqb_tells}
 use Rattle.semantic_syntax.specs.Tables.{Name, Symbol}
 use Rattle.semantic_model.specs.Entries.{Among}
-use Rattle.semantic_model.specs.Binding.{Binding, is_of, get, put, remove, take_over}
+use Rattle.semantic_model.specs.Binding.{Binding, is_binding_of, get, put, remove, take_over}
 use Rattle.semantic_model.specs.Fold.{update, in_scope}
 use Rattle.semantic_model.proofs.lists.BindingLaws.{same_key_tells, is_of_tells, get-put, get-put_other, get-remove_other}
 use Rattle.semantic_model.proofs.lists.SymbolLaws.{get-update, get-push, get_within}
@@ -68,7 +68,7 @@ unbound s (b ∷ bs) h = elim (eqb_tells b.symbol s) [
 
 pub times_put : (s : ℕ) (bs : List Binding) (c : ℕ) (x : Name) (n : ℕ) → bound_times s (put bs c x n) ≤ bound_times s bs + cond (n == s) 1 0
 times_put s [] c x n = omega arith
-times_put s (b ∷ bs) c x n = go (is_of c x b) (times_put s bs c x n)
+times_put s (b ∷ bs) c x n = go (is_binding_of c x b) (times_put s bs c x n)
   where
     go : (t : Bool) → bound_times s (put bs c x n) ≤ bound_times s bs + cond (n == s) 1 0 → bound_times s (cond t (record b { symbol = n } ∷ bs) (b ∷ put bs c x n)) ≤ cond (b.symbol == s) 1 0 + bound_times s bs + cond (n == s) 1 0
     go true h = omega arith
@@ -76,7 +76,7 @@ times_put s (b ∷ bs) c x n = go (is_of c x b) (times_put s bs c x n)
 
 pub times_remove : (s : ℕ) (bs : List Binding) (c : ℕ) (x : Name) → bound_times s (remove bs c x) ≤ bound_times s bs
 times_remove s [] c x = omega arith
-times_remove s (b ∷ bs) c x = go (is_of c x b) (times_remove s bs c x)
+times_remove s (b ∷ bs) c x = go (is_binding_of c x b) (times_remove s bs c x)
   where
     go : (t : Bool) → bound_times s (remove bs c x) ≤ bound_times s bs → bound_times s (cond t (remove bs c x) (b ∷ remove bs c x)) ≤ cond (b.symbol == s) 1 0 + bound_times s bs
     go true h = omega (arith, h)
@@ -124,7 +124,7 @@ bound_take_over (e ∷ bs) c b t x n h = go (eqb_tells e.scope c) (is_of_tells t
     first : (w : Binding) → IsBound (take_over bs c b) t x → IsBound (w ∷ take_over bs c b) t x
     first w k = elim (is_of_tells t x w) [ inl i ↦ (w.symbol, rw i.0 refl) | inr i ↦ (k.0, rw i.0 k.1) ]
 
-    go : ((e.scope == c ≡ true) × (e.scope ≡ c)) ⊎ ((e.scope == c ≡ false) × (e.scope ≡ c → ⊥)) → ((is_of t x e ≡ true) × (e.scope ≡ t) × (e.name ≡ x)) ⊎ ((is_of t x e ≡ false) × ((e.scope ≡ t) × (e.name ≡ x) → ⊥)) → (IsBound bs t x → IsBound (take_over bs c b) t x) → cond (is_of t x e) (Some e.symbol) (get bs t x) ≡ Some h.0 → IsBound (cond (e.scope == c) (record e { scope = b }) e ∷ take_over bs c b) t x
+    go : ((e.scope == c ≡ true) × (e.scope ≡ c)) ⊎ ((e.scope == c ≡ false) × (e.scope ≡ c → ⊥)) → ((is_binding_of t x e ≡ true) × (e.scope ≡ t) × (e.name ≡ x)) ⊎ ((is_binding_of t x e ≡ false) × ((e.scope ≡ t) × (e.name ≡ x) → ⊥)) → (IsBound bs t x → IsBound (take_over bs c b) t x) → cond (is_binding_of t x e) (Some e.symbol) (get bs t x) ≡ Some h.0 → IsBound (cond (e.scope == c) (record e { scope = b }) e ∷ take_over bs c b) t x
     go (inl i) (inl j) later q = absurd (n (sym j.1 ∙ i.1))
     go (inr i) (inl j) later q = (e.symbol, rw (i.0, j.0) refl)
     go i (inr j) later q = first (cond (e.scope == c) (record e { scope = b }) e) (later (h.0, rw j.0 at q))

@@ -7,7 +7,7 @@ use Rattle.semantic_syntax.proofs.Truth.{and_second}
 use Rattle.semantic_model.specs.Place.{Place, OpenScope, innermost, outside, is_strict}
 use Rattle.semantic_model.specs.Declaration.{How, plain, hoisted, moved, caught, Declaration, Route, passed_before, first_with, route_from, outward_to, outward_past}
 use Rattle.semantic_model.specs.Binder.{is_var, is_clause, is_special, is_block_function, declared_by, declared_on_entering, declared_inside, declared_on_opening}
-use Rattle.semantic_model.specs.Event.{Event, declares, takes_over, ends_header, is_barred, staying, placed_by, is_catch_body, declares_all, events_of}
+use Rattle.semantic_model.specs.Event.{Event, declares, takes_over, ends_header, is_barred, staying_declaration, placed_by, is_catch_body, declares_all, events_of}
 use Rattle.semantic_model.specs.Step.{Step, entering, opening, header_ending, closing, leaving}
 use Rattle.semantic_model.proofs.fold.EachDeclared.{EachDeclared, each_on_entering, each_on_opening}
 use Rattle.semantic_model.proofs.fold.BodyChains.{InTable, AllInTable, AllStepsIn}
@@ -110,7 +110,7 @@ module _ (v : ℕ → ℕ) (table : List (Option ℕ)) where
     placed_led caught ds d e h = h
     placed_led moved ds d e h = go (is_barred ds d (outside d.route.passed))
       where
-        go : (b : Bool) → IsLed (if b then staying d else d).how (if b then staying d else d).route
+        go : (b : Bool) → IsLed (if b then staying_declaration d else d).how (if b then staying_declaration d else d).route
         go true = tt
         go false = h
 

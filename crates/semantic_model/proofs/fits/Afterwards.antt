@@ -16,7 +16,7 @@ use Rattle.semantic_model.specs.Naming.{Naming}
 use Rattle.semantic_model.specs.Declaration.{Declaration, How, plain, hoisted, moved, caught, stands_in}
 use Rattle.semantic_model.specs.Binding.{get, bound_by}
 use Rattle.semantic_model.specs.Event.{Event, declares, takes_over, ends_header, events}
-use Rattle.semantic_model.specs.Fold.{State, start, found, update, redeclared, united, in_scope, new_symbol, entry_of, declare_in, against, chosen}
+use Rattle.semantic_model.specs.Fold.{State, start, found, update, redeclared, united, in_scope, new_symbol, redeclaration_of, declare_in, against, chosen}
 use Rattle.semantic_model.specs.Hoist.{PassedSymbol, passed_symbol, asked_symbols, against_all, hoist_by, move_symbol, move_out, rescoped, declare_by, act, run}
 use Rattle.semantic_model.specs.FreeNames.{free_references}
 use Rattle.semantic_model.specs.TablesOf.{tables_of, is_symbol}
@@ -83,7 +83,7 @@ begin_push : (ys : List Symbol) (c : ℕ) (n : Naming) → AllBegin ys → AllBe
 begin_push [] c n h = (tt, tt)
 begin_push (y ∷ ys) c n h = (h.0, begin_push ys c n h.1)
 
-one_more_entry : (n : Naming) (y : Symbol) (o : Option (List Redeclaration)) → HasOwnEntry y o → BeginsWithOwn y (unwrap_or o (own_entry y ∷ []) ++ entry_of n ∷ [])
+one_more_entry : (n : Naming) (y : Symbol) (o : Option (List Redeclaration)) → HasOwnEntry y o → BeginsWithOwn y (unwrap_or o (own_entry y ∷ []) ++ redeclaration_of n ∷ [])
 one_more_entry n y None h = (refl, refl)
 one_more_entry n y (Some []) h = absurd h
 one_more_entry n y (Some (r ∷ [])) h = absurd h

@@ -18,7 +18,7 @@ use Rattle.semantic_model.specs.Place.{Place, OpenScope, innermost, outside, is_
 use Rattle.semantic_model.specs.Inside.{opens, is_inside, is_in_header, is_parameter_decorator, scopes_in, body_number}
 use Rattle.semantic_model.specs.ScopeKind.{strict_if, opened_scope}
 use Rattle.semantic_model.specs.Event.{is_catch_body}
-use Rattle.semantic_model.specs.Step.{Step, entering, opening, header_ending, closing, leaving, steps_below, opening_at, ending_after, opening_last, scope_at, next_at, child_place, chain_within}
+use Rattle.semantic_model.specs.Step.{Step, entering, opening, header_ending, closing, leaving, steps_below, opening_at, ending_after, opening_last, scope_at, next_at, child_place, child_scopes}
 use Rattle.semantic_model.proofs.steps.Turn.{Turn, turn_at}
 use Rattle.semantic_model.proofs.steps.OpenedFrom.{OpenedFrom, OpenedRound, opened_round}
 use Rattle.semantic_model.proofs.steps.TurnCases.{ending_case}
@@ -179,7 +179,7 @@ module _ (table : List (Option ℕ)) where
   outside_in [] h = tt
   outside_in (s ∷ ss) h = h.1
 
-  within_in : (p : Place) (r : Role) (own : Option OpenScope) → AllInTable p.chain → OwnIn own → AllInTable (chain_within p r own)
+  within_in : (p : Place) (r : Role) (own : Option OpenScope) → AllInTable p.chain → OwnIn own → AllInTable (child_scopes p r own)
   within_in p r None a o = a
   within_in p r (Some s) a o = go (is_inside p.node.kind r)
     where
@@ -190,7 +190,7 @@ module _ (table : List (Option ℕ)) where
   child_chain_in : (p : Place) (own : Option OpenScope) (cursor : ℕ) (r : Role) (node : Node) → AllInTable p.chain → OwnIn own → AllInTable (child_place p own cursor r node).chain
   child_chain_in p own cursor r node a o = go (is_parameter_decorator p.node.kind r)
     where
-      go : (t : Bool) → AllInTable (cond t (outside p.chain) (chain_within p r own))
+      go : (t : Bool) → AllInTable (cond t (outside p.chain) (child_scopes p r own))
       go true = outside_in p.chain a
       go false = within_in p r own a o
 

@@ -9,8 +9,8 @@ use Rattle.semantic_syntax.specs.SourceTypes.{is_typescript}
 use Rattle.semantic_syntax.proofs.Truth.{and_second}
 use Rattle.semantic_model.specs.Place.{Place, OpenScope, innermost, outside, is_strict}
 use Rattle.semantic_model.specs.Declaration.{How, plain, hoisted, moved, caught, Declaration, Route, here, passed_before, first_with, route_from, outward_to, outward_past, scope_it_stands_in}
-use Rattle.semantic_model.specs.Binder.{Row, declare, is_var, is_clause, is_conditional, is_special, is_block_function, declared_by, declared_on_entering, declared_inside, declared_on_opening}
-use Rattle.semantic_model.specs.Event.{Event, declares, takes_over, ends_header, is_barred, staying, placed_by, is_catch_body, taken_over, declares_all, events_of}
+use Rattle.semantic_model.specs.Binder.{BinderRow, declaration_at, is_var, is_clause, is_conditional, is_special, is_block_function, declared_by, declared_on_entering, declared_inside, declared_on_opening}
+use Rattle.semantic_model.specs.Event.{Event, declares, takes_over, ends_header, is_barred, staying_declaration, placed_by, is_catch_body, taken_over, declares_all, events_of}
 use Rattle.semantic_model.specs.Step.{Step, entering, opening, header_ending, closing, leaving}
 use Rattle.semantic_model.proofs.fold.Actions.{StandsInBlock}
 use Rattle.semantic_model.proofs.fold.EachDeclared.{EachDeclared, each_on_entering, each_on_opening}
@@ -46,8 +46,8 @@ module _ (table : List (Option ℕ)) (root : slice_get table 0 ≡ Some None) wh
   stands caught d b = tt
   stands moved d b = b
 
-  name_in : (node : Node) (row : Row) (is_pure : Bool) (name : Node) → IsRouteIn row.how row.route → IsDeclaredIn (declare node row is_pure name)
-  name_in node row is_pure x h = record { target = h.target; passed = h.passed; block = stands row.how (declare node row is_pure x) h.begins }
+  name_in : (node : Node) (row : BinderRow) (is_pure : Bool) (name : Node) → IsRouteIn row.how row.route → IsDeclaredIn (declaration_at node row is_pure name)
+  name_in node row is_pure x h = record { target = h.target; passed = h.passed; block = stands row.how (declaration_at node row is_pure x) h.begins }
 
   here_in : (chain : List OpenScope) → AllInTable table chain → IsRouteIn plain (here chain)
   here_in chain h = record { target = innermost_in chain h; passed = tt; begins = tt }
@@ -125,7 +125,7 @@ module _ (table : List (Option ℕ)) (root : slice_get table 0 ≡ Some None) wh
   placed_in caught ds d h = h
   placed_in moved ds d h = go (is_barred ds d (outside d.route.passed))
     where
-      go : (b : Bool) → IsDeclaredIn (if b then staying d else d)
+      go : (b : Bool) → IsDeclaredIn (if b then staying_declaration d else d)
       go true = record { target = stands_in_table d.route.passed d refl h; passed = tt; block = tt }
       go false = h
 

@@ -13,7 +13,7 @@ use Rattle.semantic_model.specs.Names.{bound_names, names_at}
 use Rattle.semantic_model.specs.Namespace.{InstanceState, non_instantiated, const_enum_only, instantiated, instance_state, nodes_around}
 use Rattle.semantic_model.specs.Place.{Place, OpenScope, parent_holds}
 use Rattle.semantic_model.specs.Declaration.{How, plain, caught, hoisted, moved, Declaration, Route, here, outward_to, outward_past}
-use Rattle.semantic_model.specs.Binder.{Row, declare, declare_here, is_var, is_conditional, is_statement, is_block_function, variable_row, variables_under, function_row, own_function_row, class_row, is_pure_declarator, ids, parameter_excluded, parameters_under, catch_names, import_flags, enums, marked_ambient, member_named, namespace_row, type_parameter_route, type_parameter_row, declared_by, declared_inside}
+use Rattle.semantic_model.specs.Binder.{BinderRow, declaration_at, declare_here, is_var, is_conditional, is_statement, is_block_function, variable_row, variables_under, function_row, own_function_row, class_row, is_pure_declarator, ids, parameter_excluded, parameters_under, catch_names, import_flags, enums, marked_ambient, member_named, namespace_row, type_parameter_route, type_parameter_row, declared_by, declared_inside}
 
 module _ (P : Declaration → Type 0) where
   abbrev pub EachDeclared : List Declaration → Type 0
@@ -25,8 +25,8 @@ module _ (P : Declaration → Type 0) where
   declared-append (d ∷ ds) es h k = (h.0, declared-append ds es h.1 k)
 
   -- of the names of a row by its route
-  module _ (R : How → Route → Type 0) (one : (node : Node) (row : Row) (is_pure : Bool) (name : Node) → R row.how row.route → P (declare node row is_pure name)) where
-    pub each_of_row : (node : Node) (row : Row) (is_pure : Bool) (names : List Node) → R row.how row.route → EachDeclared (map (declare node row is_pure) names)
+  module _ (R : How → Route → Type 0) (one : (node : Node) (row : BinderRow) (is_pure : Bool) (name : Node) → R row.how row.route → P (declaration_at node row is_pure name)) where
+    pub each_of_row : (node : Node) (row : BinderRow) (is_pure : Bool) (names : List Node) → R row.how row.route → EachDeclared (map (declaration_at node row is_pure) names)
     each_of_row node row is_pure [] h = tt
     each_of_row node row is_pure (x ∷ xs) h = (one node row is_pure x h, each_of_row node row is_pure xs h)
 
@@ -50,21 +50,21 @@ module _ (P : Declaration → Type 0) where
           by true q = rw q (h.when_hoisted e)
           by false q = rw q h.at_home
 
-      functions : k ≡ kind.Function → EachDeclared (cond (is_statement p.node) (map (declare p.node (function_row p) (has mark.Pure p.node)) (ids p.node)) [])
+      functions : k ≡ kind.Function → EachDeclared (cond (is_statement p.node) (map (declaration_at p.node (function_row p) (has mark.Pure p.node)) (ids p.node)) [])
       functions e = by (is_statement p.node) refl
         where
           route : is_statement p.node ≡ true → (b : Bool) → is_block_function p ≡ b → R (function_row p).how (function_row p).route
           route s true q = rw q (h.when_moved e s q)
           route s false q = rw q h.at_home
 
-          by : (b : Bool) → is_statement p.node ≡ b → EachDeclared (cond b (map (declare p.node (function_row p) (has mark.Pure p.node)) (ids p.node)) [])
+          by : (b : Bool) → is_statement p.node ≡ b → EachDeclared (cond b (map (declaration_at p.node (function_row p) (has mark.Pure p.node)) (ids p.node)) [])
           by true s = each_of_row p.node (function_row p) (has mark.Pure p.node) (ids p.node) (route s (is_block_function p) refl)
           by false s = tt
 
-      classes : EachDeclared (cond (is_statement p.node) (map (declare p.node (class_row p p.chain) false) (ids p.node)) [])
+      classes : EachDeclared (cond (is_statement p.node) (map (declaration_at p.node (class_row p p.chain) false) (ids p.node)) [])
       classes = by (is_statement p.node)
         where
-          by : (b : Bool) → EachDeclared (cond b (map (declare p.node (class_row p p.chain) false) (ids p.node)) [])
+          by : (b : Bool) → EachDeclared (cond b (map (declaration_at p.node (class_row p p.chain) false) (ids p.node)) [])
           by true = each_of_row p.node (class_row p p.chain) false (ids p.node) h.at_home
           by false = tt
 
@@ -83,10 +83,10 @@ module _ (P : Declaration → Type 0) where
       catches [] = tt
       catches (x ∷ xs) = declared-append (catch_names p x) (flat_map (catch_names p) xs) (by (is kind.BindingIdentifier x)) (catches xs)
         where
-          row : Row
+          row : BinderRow
           row = record { flags = union symbol.FunctionScopedVariable.bits symbol.CatchVariable.bits; excluded = 0; how = caught; route = here p.chain }
 
-          by : (b : Bool) → EachDeclared (if b then declare p.node row false x ∷ [] else declare_here p (union symbol.BlockScopedVariable.bits symbol.CatchVariable.bits) symbol.BlockScopedVariableExcludes.bits (bound_names x))
+          by : (b : Bool) → EachDeclared (if b then declaration_at p.node row false x ∷ [] else declare_here p (union symbol.BlockScopedVariable.bits symbol.CatchVariable.bits) symbol.BlockScopedVariableExcludes.bits (bound_names x))
           by true = each_of_row p.node row false (x ∷ []) h.when_caught
           by false = names_here (union symbol.BlockScopedVariable.bits symbol.CatchVariable.bits) symbol.BlockScopedVariableExcludes.bits (bound_names x)
 
@@ -134,12 +134,12 @@ module _ (P : Declaration → Type 0) where
     pub each_on_opening : (k : AstType) (p : Place) (own : OpenScope) → (same_kind k kind.CatchClause ≡ false → R plain (here (own ∷ []))) → EachDeclared (declared_inside k p own)
     each_on_opening kind.Function p own h = by (is_statement p.node)
       where
-        by : (b : Bool) → EachDeclared (cond b [] (map (declare p.node (own_function_row p own) (has mark.Pure p.node)) (ids p.node)))
+        by : (b : Bool) → EachDeclared (cond b [] (map (declaration_at p.node (own_function_row p own) (has mark.Pure p.node)) (ids p.node)))
         by true = tt
         by false = each_of_row p.node (own_function_row p own) (has mark.Pure p.node) (ids p.node) (h refl)
     each_on_opening kind.Class p own h = by (is_statement p.node)
       where
-        by : (b : Bool) → EachDeclared (cond b [] (map (declare p.node (class_row p (own ∷ [])) false) (ids p.node)))
+        by : (b : Bool) → EachDeclared (cond b [] (map (declaration_at p.node (class_row p (own ∷ [])) false) (ids p.node)))
         by true = tt
         by false = each_of_row p.node (class_row p (own ∷ [])) false (ids p.node) (h refl)
     each_on_opening kind.TSMappedType p own h = each_of_row p.node (type_parameter_row (here (own ∷ []))) false (names_at role.Key p.node) (h refl)

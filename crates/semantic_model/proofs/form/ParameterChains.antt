@@ -11,7 +11,7 @@ use Rattle.semantic_tree.specs.Views.{is}
 use Rattle.semantic_model.specs.Place.{Place, OpenScope, outside}
 use Rattle.semantic_model.specs.Inside.{is_inside, is_in_header, is_parameter_decorator}
 use Rattle.semantic_model.specs.ScopeKind.{opened_scope}
-use Rattle.semantic_model.specs.Step.{scope_at, child_place, chain_within}
+use Rattle.semantic_model.specs.Step.{scope_at, child_place, child_scopes}
 use Rattle.semantic_model.proofs.form.Clauses.{kind_is}
 use Rattle.semantic_model.proofs.form.ParameterShape.{holds_inside, is_parameter, stands_under}
 
@@ -34,10 +34,10 @@ or_same a b e h = rw e at h
 
 module _ (P : List OpenScope → Type 0) (p : Place) (scope : Option OpenScope) (cursor : ℕ) (r : Role) (node : Node) where
   -- a child stands within, or, if it decorates a parameter, round it
-  pub child_within : (holds_parameters p.node.kind ≡ true → P (outside p.chain)) → P (chain_within p r scope) → P (child_place p scope cursor r node).chain
+  pub child_within : (holds_parameters p.node.kind ≡ true → P (outside p.chain)) → P (child_scopes p r scope) → P (child_place p scope cursor r node).chain
   child_within outer within = go (is_parameter_decorator p.node.kind r) refl
     where
-      go : (b : Bool) → is_parameter_decorator p.node.kind r ≡ b → P (cond b (outside p.chain) (chain_within p r scope))
+      go : (b : Bool) → is_parameter_decorator p.node.kind r ≡ b → P (cond b (outside p.chain) (child_scopes p r scope))
       go true e = outer (decorated p.node.kind r e)
       go false e = within
 
@@ -51,7 +51,7 @@ module _ (P : List OpenScope → Type 0) (p : Place) (scope : Option OpenScope) 
       let plain : is_parameter_decorator p.node.kind r ≡ false = not-true (is_parameter_decorator p.node.kind r) (and_second (is_inside p.node.kind r) (not (is_parameter_decorator p.node.kind r)) two) in
       rw plain (go scope is_open inside (chain block))
     where
-      go : (o : Option OpenScope) → (is_inside p.node.kind r ≡ true → o ≡ None → ⊥) → is_inside p.node.kind r ≡ true → P p.chain → P (outside (chain_within p r o))
+      go : (o : Option OpenScope) → (is_inside p.node.kind r ≡ true → o ≡ None → ⊥) → is_inside p.node.kind r ≡ true → P p.chain → P (outside (child_scopes p r o))
       go None f i c = absurd (f i refl)
       go (Some s) f i c = rw i c
 

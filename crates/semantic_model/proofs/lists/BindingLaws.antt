@@ -3,7 +3,7 @@ use Rattle.std.proofs.Common.{◌≡◌, ℕ, List, [], ◌∷◌, refl, Some, N
 use Rattle.std.proofs.lemmas.Slice.Eq.{bytes_eq-Decides}
 use Rattle.std.proofs.lemmas.Bool.Decides.{Decides-eqb, Decides-and, eqb_tells}
 use Rattle.semantic_syntax.specs.Tables.{Name}
-use Rattle.semantic_model.specs.Binding.{Binding, is_of, get, put, remove, take_over}
+use Rattle.semantic_model.specs.Binding.{Binding, is_binding_of, get, put, remove, take_over}
 use Rattle.semantic_model.specs.Entries.{Among}
 
 -- the test of a scope and a name against another
@@ -20,7 +20,7 @@ same_key_tells c d x y = go (same_key c x d y) refl
     go true e = let h : (c ≡ d) × (x ≡ y) = (same_key-Decides c d x y).0 e in inl (e, h.0, h.1)
     go false e = inr (e, λ h. let k : same_key c x d y ≡ true = (same_key-Decides c d x y).1 h in cc)
 
-pub is_of_tells : (c : ℕ) (x : Name) (b : Binding) → ((is_of c x b ≡ true) × (b.scope ≡ c) × (b.name ≡ x)) ⊎ ((is_of c x b ≡ false) × ((b.scope ≡ c) × (b.name ≡ x) → ⊥))
+pub is_of_tells : (c : ℕ) (x : Name) (b : Binding) → ((is_binding_of c x b ≡ true) × (b.scope ≡ c) × (b.name ≡ x)) ⊎ ((is_binding_of c x b ≡ false) × ((b.scope ≡ c) × (b.name ≡ x) → ⊥))
 is_of_tells c x b = same_key_tells b.scope c b.name x
 
 pub get-put : (bs : List Binding) (c : ℕ) (x : Name) (s d : ℕ) (y : Name) → get (put bs c x s) d y ≡ cond (same_key c x d y) (Some s) (get bs d y)
@@ -57,7 +57,7 @@ among_put e (b ∷ bs) c x s h = elim (is_of_tells c x b) [
   | inr k ↦ later (among_put e bs c x s) (rw k.0 at h)
 ]
   where
-    here : (is_of c x b ≡ true) × (b.scope ≡ c) × (b.name ≡ x) → Among e (record b { symbol = s } ∷ bs) → Among e (b ∷ bs) ⊎ ((e.scope ≡ c) × (e.name ≡ x) × (e.symbol ≡ s))
+    here : (is_binding_of c x b ≡ true) × (b.scope ≡ c) × (b.name ≡ x) → Among e (record b { symbol = s } ∷ bs) → Among e (b ∷ bs) ⊎ ((e.scope ≡ c) × (e.name ≡ x) × (e.symbol ≡ s))
     here k (inl q) = inr (sym (ap (λ b. b.scope) q) ∙ k.1, sym (ap (λ b. b.name) q) ∙ k.2, sym (ap (λ b. b.symbol) q))
     here k (inr q) = inl (inr q)
 

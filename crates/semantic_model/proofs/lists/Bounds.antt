@@ -4,7 +4,7 @@ use Rattle.semantic_syntax.specs.Tables.{Name, Symbol}
 use Rattle.semantic_syntax.specs.Sets.{meets}
 use Rattle.semantic_syntax.specs.declared.symbol_flags.TheConstants.SymbolFlags as symbol
 use Rattle.semantic_model.specs.Declaration.{Declaration}
-use Rattle.semantic_model.specs.Binding.{Binding, is_of, get, put, remove, move, take_over}
+use Rattle.semantic_model.specs.Binding.{Binding, is_binding_of, get, put, remove, move, take_over}
 use Rattle.semantic_model.specs.Fold.{State, flags_of, found, or_else, unless_expression, update, redeclared, united, make, declare_in, chosen, new_symbol}
 use Rattle.semantic_model.proofs.once.UseLists.{IsBelow}
 
@@ -18,7 +18,7 @@ more_below k m (b ∷ bs) h a = (omega (arith, h, a.0), more_below k m bs h a.1)
 
 pub get_below : (k : ℕ) (bs : List Binding) (c : ℕ) (x : Name) → AllBelow k bs → IsBelow k (get bs c x)
 get_below k [] c x a = tt
-get_below k (b ∷ bs) c x a = by (is_of c x b) (get_below k bs c x a.1)
+get_below k (b ∷ bs) c x a = by (is_binding_of c x b) (get_below k bs c x a.1)
   where
     by : (t : Bool) → IsBelow k (get bs c x) → IsBelow k (cond t (Some b.symbol) (get bs c x))
     by true h = a.0
@@ -26,7 +26,7 @@ get_below k (b ∷ bs) c x a = by (is_of c x b) (get_below k bs c x a.1)
 
 pub put_below : (k : ℕ) (bs : List Binding) (c : ℕ) (x : Name) (s : ℕ) → s < k → AllBelow k bs → AllBelow k (put bs c x s)
 put_below k [] c x s h a = (h, tt)
-put_below k (b ∷ bs) c x s h a = by (is_of c x b) (put_below k bs c x s h a.1)
+put_below k (b ∷ bs) c x s h a = by (is_binding_of c x b) (put_below k bs c x s h a.1)
   where
     by : (t : Bool) → AllBelow k (put bs c x s) → AllBelow k (cond t (record b { symbol = s } ∷ bs) (b ∷ put bs c x s))
     by true r = (h, a.1)
@@ -34,7 +34,7 @@ put_below k (b ∷ bs) c x s h a = by (is_of c x b) (put_below k bs c x s h a.1)
 
 pub remove_below : (k : ℕ) (bs : List Binding) (c : ℕ) (x : Name) → AllBelow k bs → AllBelow k (remove bs c x)
 remove_below k [] c x a = tt
-remove_below k (b ∷ bs) c x a = by (is_of c x b) (remove_below k bs c x a.1)
+remove_below k (b ∷ bs) c x a = by (is_binding_of c x b) (remove_below k bs c x a.1)
   where
     by : (t : Bool) → AllBelow k (remove bs c x) → AllBelow k (cond t (remove bs c x) (b ∷ remove bs c x))
     by true r = r

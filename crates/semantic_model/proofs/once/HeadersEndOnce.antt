@@ -11,7 +11,7 @@ use Rattle.semantic_model.specs.Place.{Place, OpenScope, outside}
 use Rattle.semantic_model.specs.Inside.{is_inside, is_in_header, header_roles, is_parameter_decorator}
 use Rattle.semantic_model.specs.ScopeKind.{opened_scope}
 use Rattle.semantic_model.specs.Cursor.{on_entering}
-use Rattle.semantic_model.specs.Step.{Step, entering, opening, header_ending, closing, leaving, steps_below, steps, root_place, opening_at, ending_after, opening_last, scope_at, next_at, child_place, chain_within}
+use Rattle.semantic_model.specs.Step.{Step, entering, opening, header_ending, closing, leaving, steps_below, steps, root_place, opening_at, ending_after, opening_last, scope_at, next_at, child_place, child_scopes}
 use Rattle.semantic_model.proofs.steps.TurnCases.{opening_case, ending_case, last_case}
 use Rattle.semantic_model.proofs.steps.Turn.{Turn, turn_at}
 use Rattle.semantic_model.proofs.once.Headers.{ends, ends-append, ends_of_turn, IsNot, none_opening, none_last, none_ending, ends_after, ends_outside, ends_own, parts_sum}
@@ -113,7 +113,7 @@ record Own (p : Place) (r : Role) (own : Option OpenScope) (t : OpenScope) : Typ
   is : IsNot t.number own → ⊥
   header : t.in_header ≡ is_in_header p.node.kind r
 
-among_within : (p : Place) (r : Role) (own : Option OpenScope) (t : OpenScope) → Among t (chain_within p r own) → Among t p.chain ⊎ Own p r own t
+among_within : (p : Place) (r : Role) (own : Option OpenScope) (t : OpenScope) → Among t (child_scopes p r own) → Among t p.chain ⊎ Own p r own t
 among_within p r None t h = inl h
 among_within p r (Some s) t h = by (is_inside p.node.kind r) h
   where
@@ -125,7 +125,7 @@ among_within p r (Some s) t h = by (is_inside p.node.kind r) h
 child_chain : (p : Place) (own : Option OpenScope) (cursor : ℕ) (r : Role) (node : Node) (t : OpenScope) → Among t (child_place p own cursor r node).chain → Among t p.chain ⊎ Own p r own t
 child_chain p own cursor r node t h = by (is_parameter_decorator p.node.kind r) h
   where
-    by : (b : Bool) → Among t (cond b (outside p.chain) (chain_within p r own)) → Among t p.chain ⊎ Own p r own t
+    by : (b : Bool) → Among t (cond b (outside p.chain) (child_scopes p r own)) → Among t p.chain ⊎ Own p r own t
     by true h = inl (among_outside t p.chain h)
     by false h = among_within p r own t h
 

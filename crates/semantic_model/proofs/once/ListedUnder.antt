@@ -11,7 +11,7 @@ use Rattle.semantic_model.specs.Event.{Event}
 use Rattle.semantic_model.specs.Fold.{State}
 use Rattle.semantic_model.specs.FreeNames.{add_free, free_references}
 use Rattle.semantic_syntax.specs.Lookup.{lookup}
-use Rattle.semantic_model.specs.Tie.{Tie, ties, answers, symbol_of}
+use Rattle.semantic_model.specs.Tie.{Tie, ties, answers, tied_symbol}
 use Rattle.semantic_model.specs.TablesOf.{is_symbol, uses_of, with_tie, free_of}
 use Rattle.semantic_model.proofs.once.SettledOnce.{tie_times}
 use Rattle.semantic_model.proofs.once.UseLists.{one_use, times-append}
@@ -25,19 +25,19 @@ name_tells x y = go (bytes_eq x y) refl
 
 -- the ties of reference n in the list all have the symbol
 abbrev pub AllTied : ℕ → ℕ → List Tie → Type 0
-AllTied n s ts = (t : Tie) → Among t ts → t.number ≡ n → symbol_of t ≡ Some s
+AllTied n s ts = (t : Tie) → Among t ts → t.number ≡ n → tied_symbol t ≡ Some s
 
 -- or all are free, under the name
 abbrev pub AllFree : ℕ → Name → List Tie → Type 0
-AllFree n x ts = (t : Tie) → Among t ts → t.number ≡ n → (symbol_of t ≡ None) × (t.reference.name ≡ x)
+AllFree n x ts = (t : Tie) → Among t ts → t.number ≡ n → (tied_symbol t ≡ None) × (t.reference.name ≡ x)
 
 pub uses_times : (n s : ℕ) (ts : List Tie) → AllTied n s ts → times n (uses_of ts s) ≡ tie_times n ts
 uses_times n s [] h = refl
 uses_times n s (t ∷ ts) h = omega (arith, one_use n t ts s, here (eqb_tells t.number n), uses_times n s ts (λ x a. h x (inr a)))
   where
-    here : ((t.number == n ≡ true) × (t.number ≡ n)) ⊎ ((t.number == n ≡ false) × (t.number ≡ n → ⊥)) → ◌≡◌ {A = ℕ} (cond (is_symbol s (symbol_of t)) (cond (t.number == n) 1 0) 0) (cond (t.number == n) 1 0)
-    here (inl e) = let q : symbol_of t ≡ Some s = h t (inl refl) e.1 in elim (eqb_tells s s) [ inl k ↦ rw (q, e.0, k.0) refl | inr k ↦ absurd (k.1 refl) ]
-    here (inr e) = rw e.0 (elim (is_symbol s (symbol_of t)) as (λ b. ◌≡◌ {A = ℕ} (cond b 0 0) 0) [ true ↦ refl | false ↦ refl ])
+    here : ((t.number == n ≡ true) × (t.number ≡ n)) ⊎ ((t.number == n ≡ false) × (t.number ≡ n → ⊥)) → ◌≡◌ {A = ℕ} (cond (is_symbol s (tied_symbol t)) (cond (t.number == n) 1 0) 0) (cond (t.number == n) 1 0)
+    here (inl e) = let q : tied_symbol t ≡ Some s = h t (inl refl) e.1 in elim (eqb_tells s s) [ inl k ↦ rw (q, e.0, k.0) refl | inr k ↦ absurd (k.1 refl) ]
+    here (inr e) = rw e.0 (elim (is_symbol s (tied_symbol t)) as (λ b. ◌≡◌ {A = ℕ} (cond b 0 0) 0) [ true ↦ refl | false ↦ refl ])
 
 free_added : (free : FreeLists) (y x : Name) (r : ℕ) → free_references (add_free free y r) x ≡ cond (bytes_eq y x) (free_references free x ++ r ∷ []) (free_references free x)
 free_added [] y x r = refl
@@ -51,10 +51,10 @@ one_free n free y x r h = rw (free_added free y x r) (go (name_tells y x) (eqb_t
     go (inr e) (inl k) = absurd (e.1 (h k.1))
     go (inr e) (inr k) = rw (e.0, k.0) (omega arith)
 
-free_step : (n : ℕ) (x : Name) (free : FreeLists) (t : Tie) → (t.number ≡ n → (symbol_of t ≡ None) × (t.reference.name ≡ x)) → times n (free_references (with_tie free t) x) ≡ times n (free_references free x) + cond (t.number == n) 1 0
-free_step n x free t h = go (symbol_of t) refl
+free_step : (n : ℕ) (x : Name) (free : FreeLists) (t : Tie) → (t.number ≡ n → (tied_symbol t ≡ None) × (t.reference.name ≡ x)) → times n (free_references (with_tie free t) x) ≡ times n (free_references free x) + cond (t.number == n) 1 0
+free_step n x free t h = go (tied_symbol t) refl
   where
-    go : (o : Option ℕ) → symbol_of t ≡ o → times n (free_references (elim o [ None ↦ add_free free t.reference.name t.number | Some s ↦ free ]) x) ≡ times n (free_references free x) + cond (t.number == n) 1 0
+    go : (o : Option ℕ) → tied_symbol t ≡ o → times n (free_references (elim o [ None ↦ add_free free t.reference.name t.number | Some s ↦ free ]) x) ≡ times n (free_references free x) + cond (t.number == n) 1 0
     go None e = one_free n free t.reference.name x t.number (λ k. (h k).1)
     go (Some s) e = elim (eqb_tells t.number n) [
       | inl k ↦ (let q : Some s ≡ None = sym e ∙ (h k.1).0 in absurd cc)

@@ -11,7 +11,7 @@ use Rattle.semantic_model.specs.Reference.{Occurrence, references}
 use Rattle.semantic_model.specs.Event.{Event, events}
 use Rattle.semantic_model.specs.Fold.{State, start}
 use Rattle.semantic_model.specs.Hoist.{run}
-use Rattle.semantic_model.specs.Tie.{Tie, ties, symbol_of, in_order}
+use Rattle.semantic_model.specs.Tie.{Tie, ties, tied_symbol, in_order}
 use Rattle.semantic_model.specs.TablesOf.{tables_of, entry_of, uses_of}
 use Rattle.semantic_model.specs.Fits.{StandsUnder, StandOnce}
 use Rattle.semantic_model.proofs.lists.Members.{among_at}
@@ -54,14 +54,14 @@ module _ (p : Tree) where
   tie_at : (n : ℕ) (r : Occurrence) → slice_get rs n ≡ Some r → slice_get ts n ≡ Some (tie_for final es n r)
   tie_at n r h = subst (λ k. slice_get ts n ≡ Some (tie_for final es k r)) (zero-add n) (nth_tie final es 0 rs n r h)
 
-  under_by : (n : ℕ) (r : Occurrence) (o : Option ℕ) → HasForm p → slice_get rs n ≡ Some r → n < length rs → symbol_of (tie_for final es n r) ≡ o → StandsUnder (tables_of p) n r.name o
+  under_by : (n : ℕ) (r : Occurrence) (o : Option ℕ) → HasForm p → slice_get rs n ≡ Some r → n < length rs → tied_symbol (tie_for final es n r) ≡ o → StandsUnder (tables_of p) n r.name o
   under_by n r None f h l e =
-      free_times n r.name ordered (λ t a k. let q : tie_for final es n r ≡ t = ordered_tie n r t h a k in (sym (ap symbol_of q) ∙ e, sym (ap (λ x. x.reference.name) q)))
+      free_times n r.name ordered (λ t a k. let q : tie_for final es n r ≡ t = ordered_tie n r t h a k in (sym (ap tied_symbol q) ∙ e, sym (ap (λ x. x.reference.name) q)))
       ∙ settled_once p final n l
   under_by n r (Some s) f h l e = (
     ap (λ x. times n (or_empty x)) (nth_use ordered 0 (length final.symbols) s below)
         ∙ ap (λ i. times n (uses_of ordered i)) (zero-add s)
-        ∙ uses_times n s ordered (λ t a k. sym (ap symbol_of (ordered_tie n r t h a k)) ∙ e)
+        ∙ uses_times n s ordered (λ t a k. sym (ap tied_symbol (ordered_tie n r t h a k)) ∙ e)
         ∙ settled_once p final n l,
     λ y k. tied_name (table_of p) es r.name r.way r.chain s y (orderly_events p f) e k,
   )
@@ -69,7 +69,7 @@ module _ (p : Tree) where
       below : s < length final.symbols
       below = subst (IsBelow (length final.symbols)) e (ties_below es 0 rs (tie_for final es n r) (among_at ts n (tie_for final es n r) (tie_at n r h)))
 
-  pub entry_is : (n : ℕ) (r : Occurrence) (e : Reference) → slice_get rs n ≡ Some r → slice_get (map entry_of ts) n ≡ Some e → symbol_of (tie_for final es n r) ≡ e.symbol_id
+  pub entry_is : (n : ℕ) (r : Occurrence) (e : Reference) → slice_get rs n ≡ Some r → slice_get (map entry_of ts) n ≡ Some e → tied_symbol (tie_for final es n r) ≡ e.symbol_id
   entry_is n r e h k =
       let q : Some (entry_of (tie_for final es n r)) ≡ Some e = sym (slice_get-map entry_of ts n ∙ ap (option_map entry_of) (tie_at n r h)) ∙ k in
       let w : entry_of (tie_for final es n r) ≡ e = cc in
@@ -91,6 +91,6 @@ module _ (p : Tree) where
   stand_once f = record {
     same = stands final es 0 rs;
     once = λ n h. references_stand_once p n h;
-    under = λ n r e h k. subst (StandsUnder (tables_of p) n r.name) (entry_is n r e h k) (under_by n r (symbol_of (tie_for final es n r)) f h (slice_get_within rs n r h) refl);
+    under = λ n r e h k. subst (StandsUnder (tables_of p) n r.name) (entry_is n r e h k) (under_by n r (tied_symbol (tie_for final es n r)) f h (slice_get_within rs n r h) refl);
     nothing_else = λ n h. within n (omega (arith, in_lists n, h));
   }

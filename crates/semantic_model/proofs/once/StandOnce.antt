@@ -11,7 +11,7 @@ use Rattle.semantic_model.specs.Event.{Event, declares, takes_over, ends_header,
 use Rattle.semantic_model.specs.Fold.{State, start}
 use Rattle.semantic_model.specs.Hoist.{run}
 use Rattle.semantic_syntax.specs.Lookup.{Seen, Asked, tied, barred, lookup, tied_by, or_lookup, fits, ends_after}
-use Rattle.semantic_model.specs.Tie.{Tie, ties, view, view_by, seen_as, answer, answers, is_end_of, until_end_of, symbol_by, symbol_of, settled_at, in_order, moment, is_at, is_last}
+use Rattle.semantic_model.specs.Tie.{Tie, ties, view, view_by, seen_as, answer, answers, is_end_of, until_end_of, symbol_by, tied_symbol, settled_at, in_order, moment, is_at, is_last}
 use Rattle.semantic_model.specs.TablesOf.{tables_of}
 use Rattle.semantic_model.proofs.steps.Compose.{run-append}
 use Rattle.semantic_model.proofs.once.UseLists.{IsBelow, lists_hold}
@@ -86,10 +86,10 @@ lookup_below k x w (a ∷ more) h = bound a.bound h.0 (lookup_below k x w more h
     bound (Some s) h l = fitting s (fits x w s.flags) h l
 
 -- the symbol of each tie exists
-pub ties_below : (es : List Event) (m : ℕ) (rs : List Occurrence) (t : Tie) → Among t (ties (run start es) es m rs) → IsBelow (length (run start es).symbols) (symbol_of t)
+pub ties_below : (es : List Event) (m : ℕ) (rs : List Occurrence) (t : Tie) → Among t (ties (run start es) es m rs) → IsBelow (length (run start es).symbols) (tied_symbol t)
 ties_below es m [] t h = absurd h
 ties_below es m (r ∷ rs) t (inl e) =
-    subst (λ x. IsBelow (length (run start es).symbols) (symbol_of x)) e
+    subst (λ x. IsBelow (length (run start es).symbols) (tied_symbol x)) e
     (lookup_below (length (run start es).symbols) r.name r.way (answers (run start es) es r) (answers_below es r.name r.chain))
 ties_below es m (r ∷ rs) t (inr h) = ties_below es (suc m) rs t h
 

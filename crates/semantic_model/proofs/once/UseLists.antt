@@ -6,7 +6,7 @@ use Rattle.std.proofs.lemmas.Bool.{ne_eqb}
 use Rattle.std.proofs.lemmas.Bool.Decides.{eqb_tells}
 use Rattle.semantic_syntax.specs.Tables.{Name, FreeLists}
 use Rattle.semantic_model.specs.FreeNames.{add_free}
-use Rattle.semantic_model.specs.Tie.{Tie, symbol_of}
+use Rattle.semantic_model.specs.Tie.{Tie, tied_symbol}
 use Rattle.semantic_model.specs.TablesOf.{is_symbol, uses_of, with_tie, free_of}
 use Rattle.semantic_model.proofs.once.SettledOnce.{tie_times}
 use Rattle.semantic_model.proofs.once.HeadersEndOnce.{less_or}
@@ -35,10 +35,10 @@ free_bit (Some s) k = 0
 
 abbrev pub free_times : ℕ → List Tie → ℕ
 free_times n [] = 0
-free_times n (t ∷ ts) = free_bit (symbol_of t) (cond (t.number == n) 1 0) + free_times n ts
+free_times n (t ∷ ts) = free_bit (tied_symbol t) (cond (t.number == n) 1 0) + free_times n ts
 
-with_one : (n : ℕ) (free : FreeLists) (t : Tie) → times_in_all n (entries (with_tie free t)) ≡ times_in_all n (entries free) + free_bit (symbol_of t) (cond (t.number == n) 1 0)
-with_one n free t = by (symbol_of t)
+with_one : (n : ℕ) (free : FreeLists) (t : Tie) → times_in_all n (entries (with_tie free t)) ≡ times_in_all n (entries free) + free_bit (tied_symbol t) (cond (t.number == n) 1 0)
+with_one n free t = by (tied_symbol t)
   where
     by : (o : Option ℕ) → times_in_all n (entries (elim o [ None ↦ add_free free t.reference.name t.number | Some s ↦ free ])) ≡ times_in_all n (entries free) + free_bit o (cond (t.number == n) 1 0)
     by None = one_more n free t.reference.name t.number
@@ -48,10 +48,10 @@ free_sum : (n : ℕ) (free : FreeLists) (ts : List Tie) → times_in_all n (entr
 free_sum n free [] = omega arith
 free_sum n free (t ∷ ts) = omega (arith, free_sum n (with_tie free t) ts, with_one n free t)
 
-pub one_use : (n : ℕ) (t : Tie) (ts : List Tie) (s : ℕ) → times n (uses_of (t ∷ ts) s) ≡ cond (is_symbol s (symbol_of t)) (cond (t.number == n) 1 0) 0 + times n (uses_of ts s)
-one_use n t ts s = by (is_symbol s (symbol_of t))
+pub one_use : (n : ℕ) (t : Tie) (ts : List Tie) (s : ℕ) → times n (uses_of (t ∷ ts) s) ≡ cond (is_symbol s (tied_symbol t)) (cond (t.number == n) 1 0) 0 + times n (uses_of ts s)
+one_use n t ts s = by (is_symbol s (tied_symbol t))
   where
-    by : (b : Bool) → times n (map (λ x. x.number) (cond b (t ∷ filter (λ x. is_symbol s (symbol_of x)) ts) (filter (λ x. is_symbol s (symbol_of x)) ts))) ≡ cond b (cond (t.number == n) 1 0) 0 + times n (uses_of ts s)
+    by : (b : Bool) → times n (map (λ x. x.number) (cond b (t ∷ filter (λ x. is_symbol s (tied_symbol x)) ts) (filter (λ x. is_symbol s (tied_symbol x)) ts))) ≡ cond b (cond (t.number == n) 1 0) 0 + times n (uses_of ts s)
     by true = refl
     by false = omega arith
 
@@ -60,7 +60,7 @@ abbrev bits : ℕ → ℕ → Option ℕ → ℕ → ℕ
 bits i zero o m = 0
 bits i (suc k) o m = cond (is_symbol i o) m 0 + bits (i + 1) k o m
 
-uses_step : (n : ℕ) (t : Tie) (ts : List Tie) (i k : ℕ) → times_in_all n (map (uses_of (t ∷ ts)) (range_with_len i k)) ≡ bits i k (symbol_of t) (cond (t.number == n) 1 0) + times_in_all n (map (uses_of ts) (range_with_len i k))
+uses_step : (n : ℕ) (t : Tie) (ts : List Tie) (i k : ℕ) → times_in_all n (map (uses_of (t ∷ ts)) (range_with_len i k)) ≡ bits i k (tied_symbol t) (cond (t.number == n) 1 0) + times_in_all n (map (uses_of ts) (range_with_len i k))
 uses_step n t ts i zero = omega arith
 uses_step n t ts i (suc k) = omega (arith, one_use n t ts i, uses_step n t ts (i + 1) k)
 
@@ -102,11 +102,11 @@ one_place : (k : ℕ) (o : Option ℕ) (m : ℕ) → IsBelow k o → bits 0 k o 
 one_place k None m h = omega (arith, bits_none 0 k m)
 one_place k (Some s) m h = omega (arith, bits_some 0 k s m (omega arith) (omega (arith, h)))
 
-lists_sum : (n k : ℕ) (ts : List Tie) → ((t : Tie) → Among t ts → IsBelow k (symbol_of t)) → times_in_all n (map (uses_of ts) (range_with_len 0 k)) + free_times n ts ≡ tie_times n ts
+lists_sum : (n k : ℕ) (ts : List Tie) → ((t : Tie) → Among t ts → IsBelow k (tied_symbol t)) → times_in_all n (map (uses_of ts) (range_with_len 0 k)) + free_times n ts ≡ tie_times n ts
 lists_sum n k [] h = omega (arith, uses_none n 0 k)
 lists_sum n k (t ∷ ts) h =
-    omega (arith, uses_step n t ts 0 k, one_place k (symbol_of t) (cond (t.number == n) 1 0) (h t (inl refl)), lists_sum n k ts (λ x at. h x (inr at)))
+    omega (arith, uses_step n t ts 0 k, one_place k (tied_symbol t) (cond (t.number == n) 1 0) (h t (inl refl)), lists_sum n k ts (λ x at. h x (inr at)))
 
 -- use lists of k symbols and free lists together hold each tie as often as it stands in the order of settling
-pub lists_hold : (n k : ℕ) (ts : List Tie) → ((t : Tie) → Among t ts → IsBelow k (symbol_of t)) → times_in_all n (map (uses_of ts) (range_with_len 0 k)) + times_in_all n (map (λ f. f.1) (free_of ts)) ≡ tie_times n ts
+pub lists_hold : (n k : ℕ) (ts : List Tie) → ((t : Tie) → Among t ts → IsBelow k (tied_symbol t)) → times_in_all n (map (uses_of ts) (range_with_len 0 k)) + times_in_all n (map (λ f. f.1) (free_of ts)) ≡ tie_times n ts
 lists_hold n k ts h = omega (arith, free_sum n [] ts, lists_sum n k ts h)

@@ -13,7 +13,7 @@ use Rattle.semantic_syntax.specs.declared.reference_flags.TheConstants.Reference
 use Rattle.semantic_tree.specs.Views.{is, has_text, children_of, holds}
 use Rattle.semantic_tree.specs.KindGroups.{is_wrapper}
 use Rattle.semantic_tree.specs.Unwrapped.{unwrapped_in, inner_expression}
-use Rattle.semantic_model.specs.Cursor.{is_member_or_chain, written, at_child, cursor_before, cursor_behind, on_entering, on_leaving, cursor_after}
+use Rattle.semantic_model.specs.Cursor.{is_member_or_chain, way_written, at_child, cursor_before, cursor_behind, on_entering, on_leaving, cursor_after}
 use Rattle.semantic_model.specs.Ambient.{ambient_inside, ambient_round}
 use Rattle.semantic_kinds.specs.Classes.{is_member}
 use Rattle.semantic_model.proofs.swapped.Alike.{Alike, no_trees, trees_alike, TextFor, is_name, may_name}
@@ -101,7 +101,7 @@ module _ (f : Name → Name) where
   at_child_same _ parent pu pg ambient r child cu cg cursor e s c = refl
 
   pub before_same : (parent : Node) (pu : Name) (pg : Forest) (ambient : Bool) (r : Role) (child : Node) (cu : Name) (cg : Forest) (cursor : ℕ) → SameNode parent pu pg → SameNode child cu cg → cursor_before (with_text parent pu pg) ambient r (with_text child cu cg) cursor ≡ cursor_before parent ambient r child cursor
-  before_same parent pu pg ambient r child cu cg cursor s c = ap (written parent.kind r child) (at_child_same parent.kind parent pu pg ambient r child cu cg cursor refl s c)
+  before_same parent pu pg ambient r child cu cg cursor s c = ap (way_written parent.kind r child) (at_child_same parent.kind parent pu pg ambient r child cu cg cursor refl s c)
 
   -- the cursor behind the children
   pub after_same : (parent : Node) (pu : Name) (pg : Forest) (around : Bool) (cursor : ℕ) (g h : Forest) → SameNode parent pu pg → Alike f g h → cursor_after (with_text parent pu pg) around cursor h ≡ cursor_after parent around cursor g

@@ -15,7 +15,7 @@ use Rattle.semantic_model.specs.Names.{bound_names, names_at}
 use Rattle.semantic_model.specs.Namespace.{InstanceState, non_instantiated, const_enum_only, instantiated, instance_state, nodes_around}
 use Rattle.semantic_model.specs.Place.{Place, parent_holds}
 use Rattle.semantic_model.specs.Declaration.{plain, here, outward_to}
-use Rattle.semantic_model.specs.Binder.{Row, declare, declare_here, ids, marked_ambient, is_conditional, is_statement, function_row, class_row, import_flags, imports, enums, member_names, named_member, member_named, members, namespace_row, type_parameter_route, type_parameter_row, declared_by}
+use Rattle.semantic_model.specs.Binder.{BinderRow, declaration_at, declare_here, ids, marked_ambient, is_conditional, is_statement, function_row, class_row, import_flags, import_declarations, enums, member_names, named_member, member_named, member_declarations, namespace_row, type_parameter_route, type_parameter_row, declared_by}
 use Rattle.semantic_model.proofs.swapped.Alike.{labels_in, labels, changed, map_append}
 use Rattle.semantic_model.proofs.swapped.AlikeCursor.{with_text}
 use Rattle.semantic_model.proofs.swapped.AlikeScopes.{re}
@@ -38,16 +38,16 @@ label_members member [] = refl
 label_members member (x ∷ xs) = (λ i. label_names member x (member_names x) i ++ label_members member xs i) ∙ sym (map_append (of_label member) (labels_in x) (flat_map labels_in xs))
 
 module _ (f : Name → Name) (keeps : Keeps f) where
-  label_rows : (node : Node) (u : Name) (g : Forest) (row : Row) (ls : List (Name × Span)) → map (declare (with_text node u g) row false) (map (of_label (with_text node u g)) (map (changed f) ls)) ≡ map (renamed_declaration f) (map (declare node row false) (map (of_label node) ls))
+  label_rows : (node : Node) (u : Name) (g : Forest) (row : BinderRow) (ls : List (Name × Span)) → map (declaration_at (with_text node u g) row false) (map (of_label (with_text node u g)) (map (changed f) ls)) ≡ map (renamed_declaration f) (map (declaration_at node row false) (map (of_label node) ls))
   label_rows node u g row [] = refl
-  label_rows node u g row (l ∷ ls) = ap (λ ds. renamed_declaration f (declare node row false (of_label node l)) ∷ ds) (label_rows node u g row ls)
+  label_rows node u g row (l ∷ ls) = ap (λ ds. renamed_declaration f (declaration_at node row false (of_label node l)) ∷ ds) (label_rows node u g row ls)
 
-  members_same : (p : Place) (u : Name) (g : Forest) (path : List Node) → Facts f p u g path → p.node.kind ≡ kind.TSEnumMember → members (re p u g path) ≡ ren f keeps (members p)
+  members_same : (p : Place) (u : Name) (g : Forest) (path : List Node) → Facts f p u g path → p.node.kind ≡ kind.TSEnumMember → member_declarations (re p u g path) ≡ ren f keeps (member_declarations p)
   members_same p u g path w e =
-      let row : Row = record { flags = symbol.EnumMember.bits; excluded = symbol.EnumMemberExcludes.bits; how = plain; route = here p.chain } in
-      ap (map (declare (with_text p.node u g) row false)) (label_members (with_text p.node u g) (children_of role.Id g) ∙ ap (map (of_label (with_text p.node u g))) (w.members (rw e refl)))
+      let row : BinderRow = record { flags = symbol.EnumMember.bits; excluded = symbol.EnumMemberExcludes.bits; how = plain; route = here p.chain } in
+      ap (map (declaration_at (with_text p.node u g) row false)) (label_members (with_text p.node u g) (children_of role.Id g) ∙ ap (map (of_label (with_text p.node u g))) (w.members (rw e refl)))
       ∙ label_rows p.node u g row (labels p.node.children)
-      ∙ ap (λ ns. map (renamed_declaration f) (map (declare p.node row false) ns)) (sym (label_members p.node (children_of role.Id p.node.children)))
+      ∙ ap (λ ns. map (renamed_declaration f) (map (declaration_at p.node row false) ns)) (sym (label_members p.node (children_of role.Id p.node.children)))
 
   names_here : (p : Place) (u : Name) (g : Forest) (path : List Node) (w : Facts f p u g path) (flags excluded : ℕ) → declare_here (re p u g path) flags excluded (ids (with_text p.node u g)) ≡ ren f keeps (declare_here p flags excluded (ids p.node))
   names_here p u g path w flags excluded = here_changed f keeps p u g path flags excluded (ids p.node) (ids (with_text p.node u g)) (names_changed f role.Id p.node (with_text p.node u g) w.node.children)
@@ -64,7 +64,7 @@ module _ (f : Name → Name) (keeps : Keeps f) where
       go true = names_here p u g path w (union symbol.ConstEnum.bits (marked_ambient p.node)) symbol.ConstEnumExcludes.bits
       go false = names_here p u g path w (union symbol.RegularEnum.bits (marked_ambient p.node)) symbol.RegularEnumExcludes.bits
 
-  imports_same : (p : Place) (u : Name) (g : Forest) (path : List Node) → Facts f p u g path → imports (re p u g path) ≡ ren f keeps (imports p)
+  imports_same : (p : Place) (u : Name) (g : Forest) (path : List Node) → Facts f p u g path → import_declarations (re p u g path) ≡ ren f keeps (import_declarations p)
   imports_same p u g path w =
       ap (λ b. declare_here (re p u g path) (cond (has mark.TypeOnly p.node || b) symbol.TypeImport.bits symbol.Import.bits) symbol.ImportBindingExcludes.bits (names_at role.Local (with_text p.node u g))) (parent_typed f keeps p.path path w.above)
       ∙ here_changed f keeps p u g path (import_flags p) symbol.ImportBindingExcludes.bits (names_at role.Local p.node) (names_at role.Local (with_text p.node u g)) (names_changed f role.Local p.node (with_text p.node u g) w.node.children)
@@ -72,14 +72,14 @@ module _ (f : Name → Name) (keeps : Keeps f) where
   function_declared : (p : Place) (g : Forest) (path : List Node) → Facts f p p.node.text g path → declared_by kind.Function (re p p.node.text g path) ≡ ren f keeps (declared_by kind.Function p)
   function_declared p g path w =
       let node : Node = with_text p.node p.node.text g in
-      cond_changed f keeps (is_statement p.node) (map (declare p.node (function_row p) (has mark.Pure p.node)) (ids p.node)) [] (map (declare node (function_row (re p p.node.text g path)) (has mark.Pure p.node)) (ids node)) []
-      (ap (λ row. map (declare node row (has mark.Pure p.node)) (ids node)) (function_same f keeps p g path w.above) ∙ rows_changed f keeps p.node p.node.text g (function_row p) (has mark.Pure p.node) (ids p.node) (ids node) (names_changed f role.Id p.node node w.node.children))
+      cond_changed f keeps (is_statement p.node) (map (declaration_at p.node (function_row p) (has mark.Pure p.node)) (ids p.node)) [] (map (declaration_at node (function_row (re p p.node.text g path)) (has mark.Pure p.node)) (ids node)) []
+      (ap (λ row. map (declaration_at node row (has mark.Pure p.node)) (ids node)) (function_same f keeps p g path w.above) ∙ rows_changed f keeps p.node p.node.text g (function_row p) (has mark.Pure p.node) (ids p.node) (ids node) (names_changed f role.Id p.node node w.node.children))
       refl
 
   class_declared : (p : Place) (g : Forest) (path : List Node) → Facts f p p.node.text g path → declared_by kind.Class (re p p.node.text g path) ≡ ren f keeps (declared_by kind.Class p)
   class_declared p g path w =
       let node : Node = with_text p.node p.node.text g in
-      cond_changed f keeps (is_statement p.node) (map (declare p.node (class_row p p.chain) false) (ids p.node)) [] (map (declare node (class_row p p.chain) false) (ids node)) []
+      cond_changed f keeps (is_statement p.node) (map (declaration_at p.node (class_row p p.chain) false) (ids p.node)) [] (map (declaration_at node (class_row p p.chain) false) (ids node)) []
       (rows_changed f keeps p.node p.node.text g (class_row p p.chain) false (ids p.node) (ids node) (names_changed f role.Id p.node node w.node.children)) refl
 
   -- the same place with its own text, where that is no name
@@ -112,6 +112,6 @@ module _ (f : Name → Name) (keeps : Keeps f) where
       ∙ namespace_same (instance_state p.node p.path (nodes_around p.node p.path)) p u g path w
   declared_same kind.TSTypeParameter p u g path e w =
       let node : Node = with_text p.node u g in
-      ap (λ b. map (declare node (type_parameter_row (cond b (outward_to is_conditional p.chain) (here p.chain))) false) (names_at role.Name node)) (parent_kind f keeps kind.TSInferType p.path path w.above)
+      ap (λ b. map (declaration_at node (type_parameter_row (cond b (outward_to is_conditional p.chain) (here p.chain))) false) (names_at role.Name node)) (parent_kind f keeps kind.TSInferType p.path path w.above)
       ∙ rows_changed f keeps p.node u g (type_parameter_row (type_parameter_route p)) false (names_at role.Name p.node) (names_at role.Name node) (names_changed f role.Name p.node node w.node.children)
   declared_same _ p u g path e w = refl

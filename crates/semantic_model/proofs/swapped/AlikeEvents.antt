@@ -14,8 +14,8 @@ use Rattle.semantic_model.specs.Names.{names_at}
 use Rattle.semantic_model.specs.Place.{Place, OpenScope, innermost, outside}
 use Rattle.semantic_model.specs.Step.{Step, entering, opening, header_ending, closing, leaving, steps}
 use Rattle.semantic_model.specs.Declaration.{How, plain, hoisted, moved, caught, Declaration, here}
-use Rattle.semantic_model.specs.Binder.{declare, ids, is_statement, own_function_row, class_row, type_parameter_row, declared_on_entering, declared_inside, declared_on_opening}
-use Rattle.semantic_model.specs.Event.{Event, ends_header, takes_over, declares, written_declarations, any_bars, is_barred, staying, placed_by, is_catch_body, taken_over, declares_all, events_of, events}
+use Rattle.semantic_model.specs.Binder.{declaration_at, ids, is_statement, own_function_row, class_row, type_parameter_row, declared_on_entering, declared_inside, declared_on_opening}
+use Rattle.semantic_model.specs.Event.{Event, ends_header, takes_over, declares, written_declarations, any_bars, is_barred, staying_declaration, placed_by, is_catch_body, taken_over, declares_all, events_of, events}
 use Rattle.semantic_tree.specs.Renamed.{renamed_tree}
 use Rattle.semantic_model.proofs.swapped.Alike.{map_append}
 use Rattle.semantic_model.proofs.swapped.AlikeCursor.{with_text}
@@ -37,13 +37,13 @@ module _ (f : Name → Name) (keeps : Keeps f) where
   own_function : (p : Place) (own : OpenScope) (g : Forest) (path : List Node) → Facts f p p.node.text g path → declared_inside kind.Function (re p p.node.text g path) own ≡ ren f keeps (declared_inside kind.Function p own)
   own_function p own g path w =
       let node : Node = with_text p.node p.node.text g in
-      cond_changed f keeps (is_statement p.node) [] (map (declare p.node (own_function_row p own) (has mark.Pure p.node)) (ids p.node)) [] (map (declare node (own_function_row (re p p.node.text g path) own) (has mark.Pure p.node)) (ids node)) refl
-      (ap (λ row. map (declare node row (has mark.Pure p.node)) (ids node)) (own_same f keeps p g path own w.above) ∙ rows_changed f keeps p.node p.node.text g (own_function_row p own) (has mark.Pure p.node) (ids p.node) (ids node) (names_changed f role.Id p.node node w.node.children))
+      cond_changed f keeps (is_statement p.node) [] (map (declaration_at p.node (own_function_row p own) (has mark.Pure p.node)) (ids p.node)) [] (map (declaration_at node (own_function_row (re p p.node.text g path) own) (has mark.Pure p.node)) (ids node)) refl
+      (ap (λ row. map (declaration_at node row (has mark.Pure p.node)) (ids node)) (own_same f keeps p g path own w.above) ∙ rows_changed f keeps p.node p.node.text g (own_function_row p own) (has mark.Pure p.node) (ids p.node) (ids node) (names_changed f role.Id p.node node w.node.children))
 
   own_class : (p : Place) (own : OpenScope) (g : Forest) (path : List Node) → Facts f p p.node.text g path → declared_inside kind.Class (re p p.node.text g path) own ≡ ren f keeps (declared_inside kind.Class p own)
   own_class p own g path w =
       let node : Node = with_text p.node p.node.text g in
-      cond_changed f keeps (is_statement p.node) [] (map (declare p.node (class_row p (own ∷ [])) false) (ids p.node)) [] (map (declare node (class_row p (own ∷ [])) false) (ids node)) refl
+      cond_changed f keeps (is_statement p.node) [] (map (declaration_at p.node (class_row p (own ∷ [])) false) (ids p.node)) [] (map (declaration_at node (class_row p (own ∷ [])) false) (ids node)) refl
       (rows_changed f keeps p.node p.node.text g (class_row p (own ∷ [])) false (ids p.node) (ids node) (names_changed f role.Id p.node node w.node.children))
 
   inside_same : (k : AstType) (p : Place) (own : OpenScope) (u : Name) (g : Forest) (path : List Node) → p.node.kind ≡ k → Facts f p u g path → declared_inside k (re p u g path) own ≡ ren f keeps (declared_inside k p own)
@@ -85,9 +85,9 @@ module _ (f : Name → Name) (keeps : Keeps f) where
   barred_same ds d (c ∷ cs) = λ i. any_bars_same d c ds i || barred_same ds d cs i
 
   placed_same : (how : How) (ds : List Declaration) (d : Declaration) → placed_by how (ren f keeps ds) (renamed_declaration f d) ≡ renamed_declaration f (placed_by how ds d)
-  placed_same moved ds d = ap (λ b. if b then staying (renamed_declaration f d) else renamed_declaration f d) (barred_same ds d (outside d.route.passed)) ∙ go (is_barred ds d (outside d.route.passed))
+  placed_same moved ds d = ap (λ b. if b then staying_declaration (renamed_declaration f d) else renamed_declaration f d) (barred_same ds d (outside d.route.passed)) ∙ go (is_barred ds d (outside d.route.passed))
     where
-      go : (b : Bool) → (if b then staying (renamed_declaration f d) else renamed_declaration f d) ≡ renamed_declaration f (if b then staying d else d)
+      go : (b : Bool) → (if b then staying_declaration (renamed_declaration f d) else renamed_declaration f d) ≡ renamed_declaration f (if b then staying_declaration d else d)
       go true = refl
       go false = refl
   placed_same plain ds d = refl

@@ -7,7 +7,7 @@ use Rattle.semantic_syntax.specs.Sets.{meets}
 use Rattle.semantic_syntax.specs.Tables.{Name, Symbol, Bindings}
 use Rattle.semantic_model.specs.Place.{OpenScope}
 use Rattle.semantic_model.specs.Declaration.{Declaration, How, plain, hoisted, moved, caught, stands_in}
-use Rattle.semantic_model.specs.Binding.{Binding, is_of, get, put, remove, move, take_over, bound_by}
+use Rattle.semantic_model.specs.Binding.{Binding, is_binding_of, get, put, remove, move, take_over, bound_by}
 use Rattle.semantic_model.specs.Event.{Event, declares, takes_over, ends_header}
 use Rattle.semantic_model.specs.Fold.{Conflict, Made, State, update, flags_or_none, flags_of, or_else, unless_expression, found, redeclared, united, in_scope, new_symbol, note_symbol, make, conflict_with, against, declare_in, chosen}
 use Rattle.semantic_model.specs.Hoist.{PassedSymbol, counts, passed_symbol, asked_symbols, against_all, remember, remembering, move_symbol, hoist_by, hoist, move_out, declare_by, rescoped, act, run}
@@ -58,7 +58,7 @@ module _ (f : Name → Name) (keeps : Keeps f) where
 
   put_same : (bs : List Binding) (c : ℕ) (x : Name) (s : ℕ) → put (bound bs) c (f x) s ≡ bound (put bs c x s)
   put_same [] c x s = refl
-  put_same (b ∷ bs) c x s = rw (keeps.equal b.name x, put_same bs c x s) (go (is_of c x b))
+  put_same (b ∷ bs) c x s = rw (keeps.equal b.name x, put_same bs c x s) (go (is_binding_of c x b))
     where
       go : (t : Bool) → cond t (record { scope = b.scope; name = f b.name; symbol = s } ∷ bound bs) (renamed_binding f b ∷ bound (put bs c x s)) ≡ bound (cond t (record b { symbol = s } ∷ bs) (b ∷ put bs c x s))
       go true = refl
@@ -66,7 +66,7 @@ module _ (f : Name → Name) (keeps : Keeps f) where
 
   remove_same : (bs : List Binding) (c : ℕ) (x : Name) → remove (bound bs) c (f x) ≡ bound (remove bs c x)
   remove_same [] c x = refl
-  remove_same (b ∷ bs) c x = rw (keeps.equal b.name x, remove_same bs c x) (go (is_of c x b))
+  remove_same (b ∷ bs) c x = rw (keeps.equal b.name x, remove_same bs c x) (go (is_binding_of c x b))
     where
       go : (t : Bool) → cond t (bound (remove bs c x)) (renamed_binding f b ∷ bound (remove bs c x)) ≡ bound (cond t (remove bs c x) (b ∷ remove bs c x))
       go true = refl

@@ -14,7 +14,7 @@ use Rattle.semantic_kinds.specs.declared.role.Role.{Role}
 use Rattle.semantic_kinds.specs.declared.role.Role.TheVariants as role
 use Rattle.semantic_tree.specs.Views.{is, has, has_text, children_of, child_of}
 use Rattle.semantic_model.specs.Names.{bound_names}
-use Rattle.semantic_model.specs.Namespace.{InstanceState, non_instantiated, const_enum_only, instantiated, Item, Reached, counts_as, leads_to, is_module, is_import_equals, is_list, statements, body_items, declaration_in, exported, declares, first_declaring, target_of, item_reached, local_reached, specifier_reached, specifiers_reached, declaration_reached, reached_from, is_among, new_items, reach, reached_within, greatest, instance_state, nodes_around}
+use Rattle.semantic_model.specs.Namespace.{InstanceState, non_instantiated, const_enum_only, instantiated, Item, StatementReach, counts_as, leads_to, is_namespace_or_module, is_import_equals, is_list, statements, body_items, declaration_in, exported, declares, first_declaring, target_of, item_reached, local_reached, specifier_reached, specifiers_reached, declaration_reached, reached_from, is_among, new_items, reach, reached_within, greatest, instance_state, nodes_around}
 use Rattle.semantic_model.proofs.form.Clauses.{kind_is}
 use Rattle.semantic_model.proofs.swapped.Alike.{Alike, no_trees, trees_alike, is_name}
 use Rattle.semantic_model.proofs.swapped.AlikeCursor.{with_text, SameNode}
@@ -48,7 +48,7 @@ module _ (f : Name → Name) (k : Keeps f) where
   AlikeItems [] (y ∷ ys) = ⊥
   AlikeItems (x ∷ xs) [] = ⊥
 
-  record SameReached (a b : Reached) : Type 0 where
+  record SameReached (a b : StatementReach) : Type 0 where
     states : b.states ≡ a.states
     items : AlikeItems a.items b.items
 
@@ -199,7 +199,7 @@ module _ (f : Name → Name) (k : Keeps f) where
   declaration_same : (ls ms : List (List Node)) (x y : Node) → AlikeLists ls ms → AlikeNode x y → SameReached (declaration_reached ls x) (declaration_reached ms y)
   declaration_same ls ms x y h i =
       subst (λ q. SameReached (declaration_reached ls x) (cond (holds_kind (kind.TSNamespaceDeclaration ∷ kind.TSExternalModuleDeclaration ∷ []) q) (leads_to (record { node = y; lists = ms } ∷ [])) (cond (holds_kind (kind.TSTypeAliasDeclaration ∷ kind.TSInterfaceDeclaration ∷ []) q) (counts_as non_instantiated) (counts_as instantiated)))) (sym (kind_same x y i))
-      (declaration_by ls ms x y h i (is_module x) (holds_kind (kind.TSTypeAliasDeclaration ∷ kind.TSInterfaceDeclaration ∷ []) x.kind))
+      (declaration_by ls ms x y h i (is_namespace_or_module x) (holds_kind (kind.TSTypeAliasDeclaration ∷ kind.TSInterfaceDeclaration ∷ []) x.kind))
 
   from_same : (w : AstType) (i j : Item) → AlikeItem i j → SameReached (reached_from w i) (reached_from w j)
   from_same kind.TSInterfaceDeclaration i j h = plain_counts non_instantiated

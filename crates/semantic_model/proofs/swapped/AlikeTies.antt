@@ -14,7 +14,7 @@ use Rattle.semantic_model.specs.Fold.{Made, State, start}
 use Rattle.semantic_model.specs.Hoist.{run}
 use Rattle.semantic_syntax.specs.Lookup.{Seen, Asked, tied_by, lookup}
 use Rattle.semantic_model.specs.FreeNames.{add_free}
-use Rattle.semantic_model.specs.Tie.{is_end_of, until_end_of, view, view_by, seen_as, answer, Tie, ties, symbol_of, moment, is_at, is_last, settled_at, in_order}
+use Rattle.semantic_model.specs.Tie.{is_end_of, until_end_of, view, view_by, seen_as, answer, Tie, ties, tied_symbol, moment, is_at, is_last, settled_at, in_order}
 use Rattle.semantic_model.specs.TablesOf.{scopes, entry_of, is_symbol, uses_of, with_tie, any_pure, tables_from, tables_of}
 use Rattle.semantic_tree.specs.Renamed.{renamed_tree}
 use Rattle.semantic_model.specs.Swap.{renamed_occurrence, renamed_key, renamed_symbol, renamed_tables}
@@ -123,7 +123,7 @@ module _ (f : Name → Name) (keeps : Keeps f) where
   numbers_same (t ∷ ts) = λ i. t.number ∷ numbers_same ts i
 
   uses_same : (ts : List Tie) (s : ℕ) → uses_of (tied ts) s ≡ uses_of ts s
-  uses_same ts s = ap (map (λ t. t.number)) (filter_same (λ t. is_symbol s (symbol_of t)) (λ t. refl) ts) ∙ numbers_same (filter (λ t. is_symbol s (symbol_of t)) ts)
+  uses_same ts s = ap (map (λ t. t.number)) (filter_same (λ t. is_symbol s (tied_symbol t)) (λ t. refl) ts) ∙ numbers_same (filter (λ t. is_symbol s (tied_symbol t)) ts)
 
   all_uses_same : (ts : List Tie) (ns : List ℕ) → map (uses_of (tied ts)) ns ≡ map (uses_of ts) ns
   all_uses_same ts [] = refl
@@ -141,7 +141,7 @@ module _ (f : Name → Name) (keeps : Keeps f) where
       go false = refl
 
   with_same : (free : FreeLists) (t : Tie) → with_tie (keyed free) (tie t) ≡ keyed (with_tie free t)
-  with_same free t = go (symbol_of t)
+  with_same free t = go (tied_symbol t)
     where
       go : (o : Option ℕ) → (elim o [ None ↦ add_free (keyed free) (f t.reference.name) t.number | Some s ↦ keyed free ]) ≡ keyed (elim o [ None ↦ add_free free t.reference.name t.number | Some s ↦ free ])
       go None = add_same free t.reference.name t.number

@@ -5,7 +5,7 @@ ghost use Rattle.semantic_kinds.specs.Kinds.{same_kind};
 ghost use Rattle.semantic_model.specs.Names.{bound_names};
 ghost use Rattle.semantic_model.specs.Step.{steps};
 ghost use Rattle.semantic_model.specs.Exported.{is_default_declaration, exported_names, default_exported_names};
-ghost use Rattle.semantic_queries.specs.Given.{exporting, gives, given_names, given_from};
+ghost use Rattle.semantic_queries.specs.Given.{exporting, gives, names_exported_by, given_from};
 
 use node_rules::bound_identifiers::bound_identifiers;
 use node_rules::rows::is_statement;
@@ -70,7 +70,7 @@ fn push_names(names: &mut Vec<NodeId>, node: AstKind<'_>) -> Result<(), AllocErr
 /// Adds the names that a node exports, if it is such a statement.
 fn push_given(names: &mut Vec<NodeId>, export: Export, node: AstKind<'_>) -> Result<(), AllocError>
     ensures { OnOk result (names.new.items
-        ≡ names.old.items ++ given_names export node.entry.node.now) }
+        ≡ names.old.items ++ names_exported_by export node.entry.node.now) }
 {
     if !export.is_statement(node.ty()) {
         return Ok(());

@@ -12,7 +12,7 @@ use Rattle.semantic_syntax.specs.Reading.{way_of}
 use Rattle.semantic_tree.specs.Tree.{Tree}
 use Rattle.semantic_tree.specs.Faults.{first_fault}
 use Rattle.semantic_tree.specs.Views.{is}
-use Rattle.semantic_model.specs.Place.{Place, OpenScope, innermost, at}
+use Rattle.semantic_model.specs.Place.{Place, OpenScope, innermost, scope_of_place}
 use Rattle.semantic_model.specs.Reference.{Occurrence, reference_at, references}
 use Rattle.semantic_model.specs.Declaration.{Declaration}
 use Rattle.semantic_model.specs.Step.{Step, entering, opening, header_ending, closing, leaving, steps}
@@ -81,26 +81,26 @@ module _ (ds : List Declaration) (final : State) (es : List Event) (final_is : f
       (i : Inv (ties final es 0 whole) final es stack seen calls bare awaiting fs rs done w st) where
     -- all of a new reference's scopes are left
     left_new : (p : Place) (ss : List Step) → whole ≡ rs ++ references (entering p ∷ ss) → is kind.IdentifierReference p.node ≡ true
-        → left_for final es whole (record { name = p.node.text; reference = length w.tables.references; lookup_scope = at p }) ≡ cost_of final es (reference_at p)
+        → left_for final es whole (record { name = p.node.text; reference = length w.tables.references; lookup_scope = scope_of_place p }) ≡ cost_of final es (reference_at p)
     left_new p ss e t =
         let count : length rs ≡ length w.tables.references =
         sym (tracks_length (IsDone awaiting (length seen)) (Waits awaiting seen fs final es) (ties final es 0 rs) w.tables.references w.waiting i.tracks ∙ ties_length final es 0 rs) in
         let listed : references (entering p ∷ ss) ≡ reference_at p ∷ references ss = ap (λ b. cons_option (cond b (Some (reference_at p)) None) (references ss)) t in
         let there : slice_get whole (length w.tables.references) ≡ Some (reference_at p) =
         ap (λ l. slice_get l (length w.tables.references)) (e ∙ ap (λ l. rs ++ l) listed) ∙ next_at rs (reference_at p) (references ss) (length w.tables.references) count in
-        ap (λ o. left_of final es o (at p)) there ∙ ap (cost final es (reference_at p)) (from_innermost p.chain)
+        ap (λ o. left_of final es o (scope_of_place p)) there ∙ ap (cost final es (reference_at p)) (from_innermost p.chain)
 
     pays_entering : (p : Place) (ss : List Step) → whole ≡ rs ++ references (entering p ∷ ss) → 0 + left (walk.after ds w (entering p)) ≡ left w + new_cost (entering p)
     pays_entering p ss e =
         let v : WalkState = walk.prepare w (entering p) in
         let waited : (walk.after ds w (entering p)).waiting ≡ (note_reference w p).waiting =
-        (acts_untouched v (events_of ds (entering p)) (entering_declares ds p)).waiting ∙ (same_eval (is_direct_eval p.node) (note_reference w p) (at p)).waiting in
+        (acts_untouched v (events_of ds (entering p)) (entering_declares ds p)).waiting ∙ (same_eval (is_direct_eval p.node) (note_reference w p) (scope_of_place p)).waiting in
         omega (arith, ap (sum_by (left_for final es whole)) waited, by (is kind.IdentifierReference p.node) refl)
       where
         by : (b : Bool) → is kind.IdentifierReference p.node ≡ b → left (cond b (refer w p) w) ≡ left w + cond b (cost_of final es (reference_at p)) 0
         by true t = omega (
           arith,
-          sum_by_push (left_for final es whole) w.waiting (record { name = p.node.text; reference = length w.tables.references; lookup_scope = at p }),
+          sum_by_push (left_for final es whole) w.waiting (record { name = p.node.text; reference = length w.tables.references; lookup_scope = scope_of_place p }),
           left_new p ss e t,
         )
         by false t = omega arith

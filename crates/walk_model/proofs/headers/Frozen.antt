@@ -17,7 +17,7 @@ use Rattle.semantic_model.specs.Binding.{get}
 use Rattle.semantic_model.specs.Declaration.{How, plain, hoisted, moved, caught, Declaration, here, first_with}
 use Rattle.semantic_syntax.specs.Members.{contains}
 use Rattle.semantic_syntax.proofs.Truth.{and_first}
-use Rattle.semantic_model.specs.Binder.{Row, declare, is_var, is_statement, own_function_row, class_row, type_parameter_row, ids, declared_on_entering, declared_inside, declared_on_opening}
+use Rattle.semantic_model.specs.Binder.{BinderRow, declaration_at, is_var, is_statement, own_function_row, class_row, type_parameter_row, ids, declared_on_entering, declared_inside, declared_on_opening}
 use Rattle.semantic_model.specs.Event.{Event, declares, takes_over, placed_by, is_catch_body, taken_over, declares_all, events_of}
 use Rattle.semantic_model.specs.Step.{Step, entering, opening, header_ending, closing, leaving}
 use Rattle.semantic_model.specs.Fold.{State, flags_of}
@@ -138,7 +138,7 @@ abbrev AllPlain : List Declaration → Type 0
 AllPlain [] = Unit {0}
 AllPlain (d ∷ ds) = (d.how ≡ plain) × AllPlain ds
 
-row_plain : (node : Node) (row : Row) (is_pure : Bool) (names : List Node) → row.how ≡ plain → AllPlain (map (declare node row is_pure) names)
+row_plain : (node : Node) (row : BinderRow) (is_pure : Bool) (names : List Node) → row.how ≡ plain → AllPlain (map (declaration_at node row is_pure) names)
 row_plain node row is_pure [] e = tt
 row_plain node row is_pure (x ∷ xs) e = (e, row_plain node row is_pure xs e)
 

@@ -10,7 +10,7 @@ use Rattle.semantic_model.specs.Place.{Place, OpenScope, outside}
 use Rattle.semantic_model.specs.Inside.{is_inside, header_roles, is_in_header, is_parameter_decorator}
 use Rattle.semantic_syntax.specs.Members.{contains}
 use Rattle.semantic_model.specs.Binder.{is_var}
-use Rattle.semantic_model.specs.Step.{child_place, chain_within}
+use Rattle.semantic_model.specs.Step.{child_place, child_scopes}
 use Rattle.semantic_model.proofs.lists.Members.{contains_first}
 use Rattle.walk_model.proofs.places.Shapes.{holds_below}
 use Rattle.walk_model.proofs.headers.NoStatements.{is_loose, is_closed, is_bound, asks_closed, closed_by_table, closed_by_place, child_closed}
@@ -74,7 +74,7 @@ outside_match awaiting (s ∷ ss) h = h.1
 pub child_flagged : (awaiting fs : List ℕ) (p : Place) (own : Option OpenScope) (f : Forest) (cursor : ℕ) (r : Role) (node : Node) → AreFlagged fs p.chain → OwnHeadOf awaiting fs p own f → AreFlagged fs (child_place p own cursor r node).chain
 child_flagged awaiting fs p own f cursor r node h o = go (is_parameter_decorator p.node.kind r)
   where
-    within : (c : Option OpenScope) → OwnHeadOf awaiting fs p c f → AreFlagged fs (chain_within p r c)
+    within : (c : Option OpenScope) → OwnHeadOf awaiting fs p c f → AreFlagged fs (child_scopes p r c)
     within None q = h
     within (Some s) q = by (is_inside p.node.kind r)
       where
@@ -82,14 +82,14 @@ child_flagged awaiting fs p own f cursor r node h o = go (is_parameter_decorator
         by true = (q.flagged, h)
         by false = h
 
-    go : (b : Bool) → AreFlagged fs (cond b (outside p.chain) (chain_within p r own))
+    go : (b : Bool) → AreFlagged fs (cond b (outside p.chain) (child_scopes p r own))
     go true = outside_flagged fs p.chain h
     go false = within own o
 
 pub child_less : (awaiting fs : List ℕ) (p : Place) (own : Option OpenScope) (f : Forest) (cursor : ℕ) (r : Role) (node : Node) (n : ℕ) → length fs ≤ n → ChainLess p.chain n → OwnHeadOf awaiting fs p own f → ChainLess (child_place p own cursor r node).chain n
 child_less awaiting fs p own f cursor r node n l h o = go (is_parameter_decorator p.node.kind r)
   where
-    within : (c : Option OpenScope) → OwnHeadOf awaiting fs p c f → ChainLess (chain_within p r c) n
+    within : (c : Option OpenScope) → OwnHeadOf awaiting fs p c f → ChainLess (child_scopes p r c) n
     within None q = h
     within (Some s) q = by (is_inside p.node.kind r)
       where
@@ -97,7 +97,7 @@ child_less awaiting fs p own f cursor r node n l h o = go (is_parameter_decorato
         by true = (omega (arith, q.within, l), h)
         by false = h
 
-    go : (b : Bool) → ChainLess (cond b (outside p.chain) (chain_within p r own)) n
+    go : (b : Bool) → ChainLess (cond b (outside p.chain) (child_scopes p r own)) n
     go true = outside_less p.chain n h
     go false = within own o
 
@@ -133,7 +133,7 @@ child_matches awaiting fs p own f cursor r node c e m o = go (is_parameter_decor
             not_it true b q z = let w : false ≡ true = sym q ∙ z in absurd cc
             not_it false b q z = refl
 
-    within : (q : Option OpenScope) → OwnHeadOf awaiting fs p q f → AllMatch (awaiting_with p q f awaiting) (chain_within p r q)
+    within : (q : Option OpenScope) → OwnHeadOf awaiting fs p q f → AllMatch (awaiting_with p q f awaiting) (child_scopes p r q)
     within None h = m
     within (Some s) h = by (is_inside p.node.kind r)
       where
@@ -141,7 +141,7 @@ child_matches awaiting fs p own f cursor r node c e m o = go (is_parameter_decor
         by true = (own_matches s h, deeper (Some s) p.chain m (around (Some s) h))
         by false = deeper (Some s) p.chain m (around (Some s) h)
 
-    go : (b : Bool) → AllMatch (awaiting_with p own f awaiting) (cond b (outside p.chain) (chain_within p r own))
+    go : (b : Bool) → AllMatch (awaiting_with p own f awaiting) (cond b (outside p.chain) (child_scopes p r own))
     go true = deeper own (outside p.chain) (outside_match awaiting p.chain m) (λ s z. outside_less p.chain s.number (around own o s z))
     go false = within own o
 
@@ -161,7 +161,7 @@ deeper_above (c ∷ cs) s chain l h = (
 )
 
 within_sheltered : (awaiting fs : List ℕ) (p : Place) (own : Option OpenScope) (f : Forest) (r : Role) → (is_inside p.node.kind r ≡ true → own ≡ None → ⊥) → (is_loose p.node.kind ≡ false → is_bound p.node.kind ≡ true) → IsSheltered awaiting p → OwnHeadOf awaiting fs p own f
-    → AllVarAbove awaiting (chain_within p r own)
+    → AllVarAbove awaiting (child_scopes p r own)
 within_sheltered awaiting fs p None f r i b (inr v) o = v
 within_sheltered awaiting fs p None f r i b (inl c) o = absurd (i (bound_inside p.node.kind r (b (closed_firm p.node.kind p.node.text c))) refl)
   where
@@ -228,6 +228,6 @@ child_sheltered awaiting fs p own f after cursor r node i m e t g sh o = elim (c
         none_left false true false z y x = absurd cc
         none_left false false q z y x = refl
 
-        with_own : (q : Option OpenScope) → left p f ≡ false → AllVarAbove awaiting (chain_within p r q) → AllVarAbove (awaiting_with p q f awaiting) (chain_within p r q)
+        with_own : (q : Option OpenScope) → left p f ≡ false → AllVarAbove awaiting (child_scopes p r q) → AllVarAbove (awaiting_with p q f awaiting) (child_scopes p r q)
         with_own None z v = v
-        with_own (Some s) z v = subst (λ b. AllVarAbove (cond b (s.number ∷ awaiting) awaiting) (chain_within p r (Some s))) (sym z) v
+        with_own (Some s) z v = subst (λ b. AllVarAbove (cond b (s.number ∷ awaiting) awaiting) (child_scopes p r (Some s))) (sym z) v

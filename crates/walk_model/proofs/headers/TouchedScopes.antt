@@ -7,7 +7,7 @@ use Rattle.semantic_model.specs.Place.{Place, OpenScope, innermost, outside}
 use Rattle.semantic_model.specs.Declaration.{How, plain, hoisted, moved, caught, Declaration, first_with, outward_to, outward_past, stands_in}
 use Rattle.semantic_model.specs.Binder.{is_var, is_statement, declared_by, declared_on_entering}
 use Rattle.semantic_model.proofs.fold.EachDeclared.{EachDeclared, each_on_entering}
-use Rattle.semantic_model.specs.Event.{Event, declares, is_barred, staying, placed_by, placed, declares_all}
+use Rattle.semantic_model.specs.Event.{Event, declares, is_barred, staying_declaration, placed_by, placed, declares_all}
 use Rattle.walk_model.proofs.places.Nested.{Descends}
 use Rattle.walk_model.proofs.places.Routes.{grounded, GoesOut, AllGoOut, placed_goes, not_var, target_below}
 use Rattle.walk_model.proofs.headers.Sides.{AllOn, ArePassedOn, IsOn}
@@ -148,7 +148,7 @@ placed_by_var p caught ds d e v = rw e tt
 placed_by_var p hoisted ds d e v = rw e v
 placed_by_var p moved ds d e v = go (is_barred ds d (outside d.route.passed))
   where
-    go : (b : Bool) → IsByVar p (if b then staying d else d).how (if b then staying d else d).route.target
+    go : (b : Bool) → IsByVar p (if b then staying_declaration d else d).how (if b then staying_declaration d else d).route.target
     go true = tt
     go false = rw e v
 

@@ -15,7 +15,7 @@ use Rattle.semantic_model.specs.Names.{binding_roles, bound_names, bound_below, 
 use Rattle.semantic_model.specs.Namespace.{InstanceState, non_instantiated, const_enum_only, instantiated, instance_state, nodes_around}
 use Rattle.semantic_model.specs.Place.{Place, OpenScope, parent_holds}
 use Rattle.semantic_model.specs.Declaration.{Declaration, here}
-use Rattle.semantic_model.specs.Binder.{declare, declare_here, variable_row, variables_under, function_row, own_function_row, class_row, is_pure_declarator, ids, marked_ambient, is_statement, parameter_excluded, parameters_under, catch_names, import_flags, enums, member_names, named_member, member_named, namespace_row, type_parameter_route, type_parameter_row, declared_by, declared_inside}
+use Rattle.semantic_model.specs.Binder.{declaration_at, declare_here, variable_row, variables_under, function_row, own_function_row, class_row, is_pure_declarator, ids, marked_ambient, is_statement, parameter_excluded, parameters_under, catch_names, import_flags, enums, member_names, named_member, member_named, namespace_row, type_parameter_route, type_parameter_row, declared_by, declared_inside}
 use Rattle.semantic_model.proofs.form.Clauses.{kind_is}
 use Rattle.walk_model.proofs.once.NamesInRole.{AtMostOne}
 use Rattle.walk_model.proofs.once.NameTimes.{name_roles, name_times, declared_times, reached, names_append, declared_append, row_times, here_times, bound_reached, at_reached}
@@ -40,12 +40,12 @@ module _ (x : ℕ) where
   pub inside_is : (k : AstType) (p : Place) (own : OpenScope) → declared_times x (declared_inside k p own) ≡ opened_times k p.node
   inside_is kind.Function p own = by (is_statement p.node)
     where
-      by : (b : Bool) → declared_times x (cond b [] (map (declare p.node (own_function_row p own) (has mark.Pure p.node)) (ids p.node))) ≡ cond b 0 (times (ids p.node))
+      by : (b : Bool) → declared_times x (cond b [] (map (declaration_at p.node (own_function_row p own) (has mark.Pure p.node)) (ids p.node))) ≡ cond b 0 (times (ids p.node))
       by true = refl
       by false = row_times x p.node (own_function_row p own) (has mark.Pure p.node) (ids p.node)
   inside_is kind.Class p own = by (is_statement p.node)
     where
-      by : (b : Bool) → declared_times x (cond b [] (map (declare p.node (class_row p (own ∷ [])) false) (ids p.node))) ≡ cond b 0 (times (ids p.node))
+      by : (b : Bool) → declared_times x (cond b [] (map (declaration_at p.node (class_row p (own ∷ [])) false) (ids p.node))) ≡ cond b 0 (times (ids p.node))
       by true = refl
       by false = row_times x p.node (class_row p (own ∷ [])) false (ids p.node)
   inside_is kind.TSMappedType p own = row_times x p.node (type_parameter_row (here (own ∷ []))) false (names_at role.Key p.node)
@@ -112,8 +112,8 @@ module _ (x : ℕ) where
   -- what a node declares, on entering it and in its own scope
   own_times : (k : AstType) (p : Place) → p.node.kind ≡ k → IsLone k p.node.children → declared_times x (declared_by k p) + opened_times k p.node ≤ counted p.node + reached x (name_roles k) p.node.children
   own_times kind.VariableDeclarator p e l = omega (arith, variables_times p.path p, bound_of kind.VariableDeclarator p.node e refl)
-  own_times kind.Function p e l = statement_times (is_statement p.node) (map (declare p.node (function_row p) (has mark.Pure p.node)) (ids p.node)) p.node (row_times x p.node (function_row p) (has mark.Pure p.node) (ids p.node))
-  own_times kind.Class p e l = statement_times (is_statement p.node) (map (declare p.node (class_row p p.chain) false) (ids p.node)) p.node (row_times x p.node (class_row p p.chain) false (ids p.node))
+  own_times kind.Function p e l = statement_times (is_statement p.node) (map (declaration_at p.node (function_row p) (has mark.Pure p.node)) (ids p.node)) p.node (row_times x p.node (function_row p) (has mark.Pure p.node) (ids p.node))
+  own_times kind.Class p e l = statement_times (is_statement p.node) (map (declaration_at p.node (class_row p p.chain) false) (ids p.node)) p.node (row_times x p.node (class_row p p.chain) false (ids p.node))
   own_times kind.FormalParameter p e l = omega (arith, parameters_times p.path p, bound_of kind.FormalParameter p.node e refl)
   own_times kind.FormalParameterRest p e l = omega (arith, parameters_times p.path p, bound_of kind.FormalParameterRest p.node e refl)
   own_times kind.BindingRestElement p e l = omega (arith, rest_times p, bound_of kind.BindingRestElement p.node e refl)

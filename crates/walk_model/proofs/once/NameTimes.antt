@@ -12,7 +12,7 @@ use Rattle.semantic_tree.specs.Views.{is_role_of, children_of}
 use Rattle.semantic_model.specs.Names.{binding_roles, bound_below, bound_names, names_at}
 use Rattle.semantic_model.specs.Place.{Place}
 use Rattle.semantic_model.specs.Declaration.{Declaration, plain, here}
-use Rattle.semantic_model.specs.Binder.{Row, declare, declare_here}
+use Rattle.semantic_model.specs.Binder.{BinderRow, declaration_at, declare_here}
 
 -- the roles under which the names stand that a node of the kind declares, or hands on to the node around it
 abbrev pub name_roles : AstType → List Role
@@ -55,7 +55,7 @@ module _ (x : ℕ) where
   declared_append (d ∷ ds) es = omega (arith, declared_append ds es)
 
   -- what a row declares
-  pub row_times : (node : Node) (row : Row) (is_pure : Bool) (names : List Node) → declared_times (map (declare node row is_pure) names) ≡ name_times names
+  pub row_times : (node : Node) (row : BinderRow) (is_pure : Bool) (names : List Node) → declared_times (map (declaration_at node row is_pure) names) ≡ name_times names
   row_times node row is_pure [] = refl
   row_times node row is_pure (n ∷ ns) = ap (λ m. cond (n.node_id == x) 1 0 + m) (row_times node row is_pure ns)
 

@@ -6,7 +6,7 @@ use Rattle.semantic_model.specs.Place.{Place, OpenScope, innermost, outside}
 use Rattle.semantic_model.specs.Step.{Step, entering, opening, header_ending, closing, leaving, steps}
 use Rattle.semantic_model.specs.Declaration.{How, plain, hoisted, moved, caught, Declaration}
 use Rattle.semantic_model.specs.Binder.{declared_on_entering, declared_on_opening}
-use Rattle.semantic_model.specs.Event.{Event, declares, takes_over, ends_header, declared_at, is_barred, staying, placed_by, is_catch_body, taken_over, declares_all, events_of, events, written_declarations}
+use Rattle.semantic_model.specs.Event.{Event, declares, takes_over, ends_header, declared_at, is_barred, staying_declaration, placed_by, is_catch_body, taken_over, declares_all, events_of, events, written_declarations}
 use Rattle.semantic_model.specs.Fold.{State, Made, start}
 use Rattle.semantic_model.specs.Hoist.{act, run}
 use Rattle.semantic_model.proofs.fold.Orders.{Adds, adds}
@@ -20,7 +20,7 @@ placed_same hoisted ds d = refl
 placed_same caught ds d = refl
 placed_same moved ds d = by (is_barred ds d (outside d.route.passed))
   where
-    by : (b : Bool) → (if b then staying d else d).naming.identifier ≡ d.naming.identifier
+    by : (b : Bool) → (if b then staying_declaration d else d).naming.identifier ≡ d.naming.identifier
     by true = refl
     by false = refl
 

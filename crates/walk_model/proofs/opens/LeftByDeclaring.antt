@@ -61,7 +61,7 @@ note_symbol_untouched w y d = by d.is_pure
 make_untouched : (w : WalkState) (s : ℕ) (d : Naming) → Untouched w (writes.make w s d)
 make_untouched w s d = record { scopes = refl; references = refl; free = refl; waiting = refl; node_scopes = refl; node_references = refl; added = [] ∷ []; are_empty = refl; uses = refl }
 
-symbol_untouched : (w : WalkState) (s : ℕ) (d : Naming) (o : Option ℕ) → Untouched w (writes.symbol_by w s d o)
+symbol_untouched : (w : WalkState) (s : ℕ) (d : Naming) (o : Option ℕ) → Untouched w (writes.with_found_symbol w s d o)
 symbol_untouched w s d None = make_untouched w s d
 symbol_untouched w s d (Some y) = same_uses w (writes.unite w y d) refl refl refl refl refl refl refl
 

@@ -13,7 +13,7 @@ use Rattle.semantic_syntax.specs.Tables.{Scope}
 use Rattle.semantic_syntax.specs.Reading.{scope_of, no_scope}
 use Rattle.semantic_syntax.specs.Told.{source_of}
 use Rattle.semantic_tree.specs.Views.{is}
-use Rattle.semantic_model.specs.Place.{Place, OpenScope, at, innermost}
+use Rattle.semantic_model.specs.Place.{Place, OpenScope, scope_of_place, innermost}
 use Rattle.semantic_model.specs.Declaration.{Declaration}
 use Rattle.semantic_syntax.specs.Members.{contains}
 use Rattle.semantic_model.specs.Step.{Step, entering, opening, header_ending, closing, leaving}
@@ -23,7 +23,7 @@ use Rattle.semantic_model.specs.TablesOf.{is_direct_eval}
 use Rattle.semantic_model.specs.NodeTable.{Belongs, numbered_from}
 use Rattle.semantic_syntax.specs.Outcome.{Pending, Outcome, header_outcome}
 use Rattle.walk_model.specs.WalkState.{WalkState}
-use Rattle.walk_model.specs.Opens.{number_of, with_eval, add_eval, note_eval, note_reference, refer, open_scope, close_scope}
+use Rattle.walk_model.specs.Opens.{innermost_number, with_eval, add_eval, note_eval, note_reference, refer, open_scope, close_scope}
 use Rattle.walk_model.specs.Settles.{settle, settle_by}
 use Rattle.walk_model.specs.Noted.{with_entry, entries_of}
 use Rattle.walk_model.specs.Walks as walk
@@ -37,7 +37,7 @@ use Rattle.walk_model.proofs.opens.EvalReach.{reached, reaches_open, AllLinked, 
 
 -- a scope as it opens
 abbrev pub bare_entry : Place → OpenScope → Scope
-bare_entry p s = record { parent = number_of p.chain; node = s.opener; flags = record { bits = s.flags } }
+bare_entry p s = record { parent = innermost_number p.chain; node = s.opener; flags = record { bits = s.flags } }
 
 abbrev pub bare_past : List Scope → Step → List Scope
 bare_past bare (opening p s) = bare ++ bare_entry p s ∷ []
@@ -132,11 +132,11 @@ noted : (stack : List ℕ) (seen calls : List (List ℕ)) (bare : List Scope) (v
     → ShowsScopes stack seen (calls_past calls (entering p)) bare (note_eval v p)
 noted stack seen calls bare v p g k h = go (is_direct_eval p.node) refl g
   where
-    solid : (chain : List OpenScope) → p.chain ≡ chain → HasVar chain → IsChain stack seen chain → ShowsScopes stack seen (calls ++ walk.numbers chain ∷ []) bare (add_eval v (at p))
+    solid : (chain : List OpenScope) → p.chain ≡ chain → HasVar chain → IsChain stack seen chain → ShowsScopes stack seen (calls ++ walk.numbers chain ∷ []) bare (add_eval v (scope_of_place p))
     solid [] e f i = absurd (f refl)
     solid (s ∷ ss) e f i = rw e (note_call stack seen calls bare v s ss i h)
 
-    go : (b : Bool) → is_direct_eval p.node ≡ b → IsGrounded p → ShowsScopes stack seen (cond b (calls ++ walk.numbers p.chain ∷ []) calls) bare (cond b (add_eval v (at p)) v)
+    go : (b : Bool) → is_direct_eval p.node ≡ b → IsGrounded p → ShowsScopes stack seen (cond b (calls ++ walk.numbers p.chain ∷ []) calls) bare (cond b (add_eval v (scope_of_place p)) v)
     go true e (inl f) = solid p.chain refl f k
     go true e (inr f) = let q : false ≡ true = sym (no_call_at_root p f) ∙ e in absurd cc
     go false e f = h
@@ -149,7 +149,7 @@ entered stack seen calls bare w p g k h = noted stack seen calls bare (note_refe
     go true = same_scopes stack seen calls bare w (refer w p) refl refl h
     go false = h
 
-head_number : (chain : List OpenScope) → number_of chain ≡ head_of (walk.numbers chain)
+head_number : (chain : List OpenScope) → innermost_number chain ≡ head_of (walk.numbers chain)
 head_number [] = refl
 head_number (s ∷ ss) = refl
 

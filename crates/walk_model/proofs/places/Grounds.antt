@@ -23,7 +23,7 @@ use Rattle.semantic_model.specs.Inside.{is_inside, is_in_header}
 use Rattle.semantic_model.specs.ScopeKind.{opened_scope, strict_if}
 use Rattle.semantic_model.specs.Cursor.{on_entering}
 use Rattle.semantic_model.specs.Binder.{is_var}
-use Rattle.semantic_model.specs.Step.{steps_below, steps, opening_at, ending_after, opening_last, scope_at, child_place, chain_within, root_place}
+use Rattle.semantic_model.specs.Step.{steps_below, steps, opening_at, ending_after, opening_last, scope_at, child_place, child_scopes, root_place}
 use Rattle.semantic_model.proofs.steps.Turn.{Turn, turn_at}
 use Rattle.semantic_model.proofs.steps.EachStep.{each_of_node, each_of_turn}
 use Rattle.semantic_model.proofs.form.Clauses.{kind_is}
@@ -112,7 +112,7 @@ deeper_var s chain h = go (is_var s) refl h
 all_inside : (k : AstType) (r : Role) → k ≡ kind.Program → is_inside k r ≡ true
 all_inside k r e = rw e refl
 
-within_var : (p : Place) (r : Role) (scope : Option OpenScope) → IsGrounded p → OwnVar p scope → (is_inside p.node.kind r ≡ true → scope ≡ None → ⊥) → HasVar (chain_within p r scope)
+within_var : (p : Place) (r : Role) (scope : Option OpenScope) → IsGrounded p → OwnVar p scope → (is_inside p.node.kind r ≡ true → scope ≡ None → ⊥) → HasVar (child_scopes p r scope)
 within_var p r None (inl g) o i = g
 within_var p r None (inr e) o i = absurd (i (all_inside p.node.kind r e) refl)
 within_var p r (Some s) g o i = go (is_inside p.node.kind r) refl g

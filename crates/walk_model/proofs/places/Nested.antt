@@ -15,7 +15,7 @@ use Rattle.semantic_model.specs.Inside.{opens, is_inside, any_inside, header_rol
 use Rattle.semantic_model.specs.ScopeKind.{opened_scope}
 use Rattle.semantic_syntax.specs.Members.{contains}
 use Rattle.semantic_syntax.proofs.Truth.{and_first}
-use Rattle.semantic_model.specs.Step.{Step, entering, opening, header_ending, closing, leaving, steps_below, opening_at, ending_after, opening_last, scope_at, child_place, chain_within}
+use Rattle.semantic_model.specs.Step.{Step, entering, opening, header_ending, closing, leaving, steps_below, opening_at, ending_after, opening_last, scope_at, child_place, child_scopes}
 use Rattle.semantic_model.proofs.steps.Turn.{Turn, turn_at}
 use Rattle.semantic_model.proofs.steps.Opened.{opened_by_node, openings, none_after, next_opened}
 use Rattle.semantic_model.proofs.lists.Members.{contains_first}
@@ -230,7 +230,7 @@ child_chain p own cursor r node after stack seen h o = go (is_parameter_decorato
     deeper None chain k = k
     deeper (Some s) chain k = chain_deeper (any_inside p.node.kind (tree r node.kind node.span node.text node.marks node.children node.node_id after)) s.number stack seen chain k
 
-    within : (c : Option OpenScope) → IsOwnOf seen p c → IsChain (open_with p c (tree r node.kind node.span node.text node.marks node.children node.node_id after) stack) seen (chain_within p r c)
+    within : (c : Option OpenScope) → IsOwnOf seen p c → IsChain (open_with p c (tree r node.kind node.span node.text node.marks node.children node.node_id after) stack) seen (child_scopes p r c)
     within None k = h
     within (Some s) k = by (is_inside p.node.kind r)
       where
@@ -242,7 +242,7 @@ child_chain p own cursor r node after stack seen h o = go (is_parameter_decorato
         }
         by false = chain_deeper (any_inside p.node.kind after) s.number stack seen p.chain h
 
-    go : (b : Bool) → IsChain (open_with p own (tree r node.kind node.span node.text node.marks node.children node.node_id after) stack) seen (cond b (outside p.chain) (chain_within p r own))
+    go : (b : Bool) → IsChain (open_with p own (tree r node.kind node.span node.text node.marks node.children node.node_id after) stack) seen (cond b (outside p.chain) (child_scopes p r own))
     go true = deeper own (outside p.chain) (outside_chain stack seen p.chain h)
     go false = within own o
 

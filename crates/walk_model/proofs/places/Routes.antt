@@ -7,7 +7,7 @@ use Rattle.semantic_model.specs.Place.{Place, OpenScope, no_scope, innermost, ou
 use Rattle.semantic_model.specs.Declaration.{How, plain, hoisted, moved, caught, Declaration, Route, here, passed_before, first_with, route_from, outward_to, outward_past, scope_it_stands_in}
 use Rattle.semantic_model.specs.Binder.{is_var, is_clause, is_conditional, is_special, is_block_function, declared_by, declared_inside}
 use Rattle.semantic_model.proofs.fold.EachDeclared.{EachDeclared, each_on_entering, each_on_opening}
-use Rattle.semantic_model.specs.Event.{is_barred, staying, placed_by}
+use Rattle.semantic_model.specs.Event.{is_barred, staying_declaration, placed_by}
 use Rattle.walk_model.proofs.places.Nested.{Descends}
 use Rattle.walk_model.proofs.shows.ShownHoists.{ArePassed}
 pub use Rattle.walk_model.specs.Shown.{HasVar}
@@ -114,7 +114,7 @@ placed_goes chain hoisted ds d h = h
 placed_goes chain caught ds d h = h
 placed_goes chain moved ds d h = go (is_barred ds d (outside d.route.passed))
   where
-    go : (b : Bool) → GoesOut chain (if b then staying d else d)
+    go : (b : Bool) → GoesOut chain (if b then staying_declaration d else d)
     go true = let w : IsWay chain plain [] (scope_it_stands_in d) = stays_is chain d.route.passed d.route.target h.rest h.is in record { rest = w.rest; is = w.is; leaves = tt }
     go false = h
 

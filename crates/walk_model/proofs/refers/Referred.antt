@@ -10,7 +10,7 @@ use Rattle.semantic_syntax.specs.declared.scope_flags.TheConstants.ScopeFlags as
 use Rattle.semantic_syntax.specs.Tables.{Scope, Tables}
 use Rattle.semantic_syntax.specs.Reading.{scope_of}
 use Rattle.semantic_tree.specs.Views.{is}
-use Rattle.semantic_model.specs.Place.{Place, OpenScope, at}
+use Rattle.semantic_model.specs.Place.{Place, OpenScope, scope_of_place}
 use Rattle.semantic_model.specs.Reference.{Occurrence, reference_at, references}
 use Rattle.semantic_model.specs.Step.{Step, entering, opening, header_ending, closing, leaving}
 use Rattle.semantic_model.specs.Event.{Event, declares, takes_over, ends_header}
@@ -178,7 +178,7 @@ refs_noted final es awaiting stack seen fs rs w p g k h r = by (is kind.Identifi
     count : n ≡ length rs
     count = tracks_length (IsDone awaiting (length seen)) (Waits awaiting seen fs final es) (ties final es 0 rs) w.tables.references w.waiting r.tracks ∙ ties_length final es 0 rs
 
-    waits_new : (chain : List OpenScope) → p.chain ≡ chain → HasVar chain → AllMatch awaiting p.chain → Waits awaiting seen fs final es (tie_of final es (0 + length rs) (reference_at p)) (record { name = p.node.text; reference = n; lookup_scope = at p })
+    waits_new : (chain : List OpenScope) → p.chain ≡ chain → HasVar chain → AllMatch awaiting p.chain → Waits awaiting seen fs final es (tie_of final es (0 + length rs) (reference_at p)) (record { name = p.node.text; reference = n; lookup_scope = scope_of_place p })
     waits_new [] e v m = absurd (v refl)
     waits_new (s ∷ ss) e v m = record {
       asked = [];
@@ -199,7 +199,7 @@ refs_noted final es awaiting stack seen fs rs w p g k h r = by (is kind.Identifi
     by : (b : Bool) → is kind.IdentifierReference p.node ≡ b → IsGrounded p → Refs final es awaiting seen fs (cond b (rs ++ reference_at p ∷ []) rs) (cond b (refer w p) w)
     by true e (inl v) = record {
       tracks = subst (λ ts. Tracks (IsDone awaiting (length seen)) (Waits awaiting seen fs final es) ts (refer w p).tables.references (refer w p).waiting) (sym (ties-append final es 0 rs (reference_at p ∷ [])))
-          (tracks-push (IsDone awaiting (length seen)) (Waits awaiting seen fs final es) (ties final es 0 rs) w.tables.references w.waiting (tie_of final es (0 + length rs) (reference_at p)) (record { name = p.node.text; reference = n; lookup_scope = at p }) r.tracks (waits_new p.chain refl v (h.matches e)));
+          (tracks-push (IsDone awaiting (length seen)) (Waits awaiting seen fs final es) (ties final es 0 rs) w.tables.references w.waiting (tie_of final es (0 + length rs) (reference_at p)) (record { name = p.node.text; reference = n; lookup_scope = scope_of_place p }) r.tracks (waits_new p.chain refl v (h.matches e)));
       nodes = ap (λ l. with_entry l (record { node = p.node.node_id; number = n })) r.nodes
           ∙ sym (entries-push (numbered_from 0 (map (λ q. q.node) rs)) (record { node = p.node.node_id; number = n }))
           ∙ ap (λ m. entries_of (numbered_from 0 (map (λ q. q.node) rs) ++ record { node = p.node.node_id; number = m } ∷ [])) number
@@ -209,5 +209,5 @@ refs_noted final es awaiting stack seen fs rs w p g k h r = by (is kind.Identifi
       where
         number : n ≡ 0 + length (map (λ (q : Occurrence). q.node) rs)
         number = omega (arith, count, length_nodes rs)
-    by true e (inr q) = let z : false ≡ true = rw q at e in absurd cc
+    by true e (inr q) = let z : false ≡ true = rw q scope_of_place e in absurd cc
     by false e v = r

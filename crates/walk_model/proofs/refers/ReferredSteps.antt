@@ -11,7 +11,7 @@ use Rattle.semantic_tree.specs.Forest.{Forest, nothing, tree}
 use Rattle.semantic_tree.specs.Views.{is, has_role}
 use Rattle.semantic_model.specs.Inside.{header_roles}
 use Rattle.walk_model.proofs.headers.TouchedScopes.{AllTouch}
-use Rattle.semantic_model.specs.Place.{Place, OpenScope, at}
+use Rattle.semantic_model.specs.Place.{Place, OpenScope, scope_of_place}
 use Rattle.semantic_model.specs.Reference.{Occurrence, references}
 use Rattle.semantic_model.specs.Declaration.{Declaration}
 use Rattle.semantic_model.specs.Step.{Step, entering, opening, header_ending, closing, leaving}
@@ -71,7 +71,7 @@ module _ (ds : List Declaration) (all : List Tie) (final : State) (es : List Eve
       let v : WalkState = walk.prepare w (entering p) in
       let u : WalkState = walk.after ds w (entering p) in
       let U : Untouched v u = acts_untouched v evs (entering_declares ds p) in
-      let E : SameReferences v1 v = same_eval (is_direct_eval p.node) v1 (at p) in
+      let E : SameReferences v1 v = same_eval (is_direct_eval p.node) v1 (scope_of_place p) in
       let R : Represents (length seen) u (run st evs) = step_as ds w st stack seen (entering p) k g i.represents in
       let r1 : Refs final es awaiting seen fs (referred_past rs (entering p)) v1 = refs_noted final es awaiting stack seen fs rs w p g k h (record { tracks = i.tracks; nodes = i.nodes }) in
       let r2 : Refs final es awaiting seen fs (referred_past rs (entering p)) v = refs_same final es awaiting seen fs (referred_past rs (entering p)) v1 v E.references E.waiting E.nodes r1 in

@@ -15,7 +15,7 @@ use Rattle.semantic_syntax.specs.Reading.{no_symbol, no_reference, reference_of}
 use Rattle.semantic_model.specs.FreeNames.{add_free}
 use Rattle.semantic_model.specs.Place.{innermost}
 use Rattle.semantic_syntax.specs.Outcome.{Pending, Outcome, means, is_free, waits, staying, waiting_on, looked_up_from}
-use Rattle.semantic_model.specs.Tie.{Tie, symbol_of as symbol_tied, final_flags}
+use Rattle.semantic_model.specs.Tie.{Tie, tied_symbol as symbol_tied, final_flags}
 use Rattle.semantic_model.specs.TablesOf.{entry_of, is_symbol, uses_of, with_tie, free_of}
 use Rattle.walk_model.specs.Settles.{tie, set_free, settle_one, settle}
 

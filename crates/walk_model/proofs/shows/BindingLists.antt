@@ -4,7 +4,7 @@ use Rattle.std.specs.Map.{lookup}
 use Rattle.std.proofs.lemmas.Bool.Decides.{eqb_tells}
 use Rattle.indexmap.specs.IndexMap.{insert_entry, shift_remove_entry}
 use Rattle.semantic_syntax.specs.Tables.{Name, Bindings}
-use Rattle.semantic_model.specs.Binding.{Binding, is_of, get, put, remove, take_over, bound_by}
+use Rattle.semantic_model.specs.Binding.{Binding, is_binding_of, get, put, remove, take_over, bound_by}
 use Rattle.semantic_model.proofs.lists.BindingLaws.{is_of_tells, same_key_tells, get-put, get-remove, get-take_over_body, get-take_over_other}
 use Rattle.semantic_model.proofs.once.ListedUnder.{name_tells}
 use Rattle.semantic_model.proofs.fits.Outwards.{lookup-bound_by}
@@ -33,7 +33,7 @@ remove_here (b ∷ bs) c x h = elim (is_of_tells c x b) [
   | inr k ↦ grind (arith, remove_here bs c x h.1, eqb_tells b.scope c, name_tells b.name x, name_tells x b.name)
 ]
   where
-    here : (is_of c x b ≡ true) × (b.scope ≡ c) × (b.name ≡ x) → bound_by (remove (b ∷ bs) c x) c ≡ shift_remove_entry (bytes_eq x) (bound_by (b ∷ bs) c)
+    here : (is_binding_of c x b ≡ true) × (b.scope ≡ c) × (b.name ≡ x) → bound_by (remove (b ∷ bs) c x) c ≡ shift_remove_entry (bytes_eq x) (bound_by (b ∷ bs) c)
     here k =
         let absent : get bs c x ≡ None = rw (k.1, k.2) at h.0 in
         grind (arith, remove_absent bs c x absent, eqb_tells b.scope c, name_tells b.name x, name_tells x b.name)

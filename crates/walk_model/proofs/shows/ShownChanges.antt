@@ -115,7 +115,7 @@ represents_unite n w st y d h =
 
 -- declared by what was found
 pub represents_declare_in : (n : ℕ) (w : WalkState) (st : State) (c : ℕ) (d : Declaration) (o : Option ℕ) → c < n → Represents n w st
-    → Represents n (writes.note_symbol (writes.symbol_by w c d.naming o) (unwrap_or o (length w.tables.symbols)) d.naming) (declare_in st c d o)
+    → Represents n (writes.note_symbol (writes.with_found_symbol w c d.naming o) (unwrap_or o (length w.tables.symbols)) d.naming) (declare_in st c d o)
 represents_declare_in n w st c d None l h = represents_make n w st c d l h
 represents_declare_in n w st c d (Some y) l h =
     represents_note_symbol n (writes.unite w y d.naming) (record (against st d y) { symbols = update (λ z. united d.naming.flags (redeclared d.naming z)) st.symbols y }) y d (represents_unite n w st y d h)
@@ -127,7 +127,7 @@ chosen_as n w st (Some y) h = refl
 pub represents_declare : (n : ℕ) (w : WalkState) (st : State) (c : ℕ) (d : Declaration) → c < n → Represents n w st
     → Represents n (writes.declare w c d.naming) (declare_in st c d (found st c d.naming.name))
 represents_declare n w st c d l h =
-    subst (λ o. Represents n (writes.note_symbol (writes.symbol_by w c d.naming o) (unwrap_or o (length w.tables.symbols)) d.naming) (declare_in st c d (found st c d.naming.name)))
+    subst (λ o. Represents n (writes.note_symbol (writes.with_found_symbol w c d.naming o) (unwrap_or o (length w.tables.symbols)) d.naming) (declare_in st c d (found st c d.naming.name)))
     (sym (found_as n w st c d.naming.name h.shows)) (represents_declare_in n w st c d (found st c d.naming.name) l h)
 
 pub represents_remember : (n : ℕ) (w : WalkState) (st : State) (c : ℕ) (x : Name) (y : ℕ) → Represents n w st

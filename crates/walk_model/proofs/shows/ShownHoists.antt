@@ -97,9 +97,9 @@ hoist_none : (n : ℕ) (w : WalkState) (st : State) (d : Declaration) → d.rout
 hoist_none n w st d l h =
     let o : Option ℕ = found st d.route.target.number d.naming.name in
     rw (found_as n w st d.route.target.number d.naming.name h.shows)
-    (subst (λ y. Represents n (reaches.remember_all (writes.note_symbol (writes.symbol_by w d.route.target.number d.naming o) (unwrap_or o (length w.tables.symbols)) d.naming) (numbers d.route.passed) d.naming.name y) (hoist_by st d None))
+    (subst (λ y. Represents n (reaches.remember_all (writes.note_symbol (writes.with_found_symbol w d.route.target.number d.naming o) (unwrap_or o (length w.tables.symbols)) d.naming) (numbers d.route.passed) d.naming.name y) (hoist_by st d None))
     (sym (chosen_as n w st o h.shows))
-    (remember_all_as n (writes.note_symbol (writes.symbol_by w d.route.target.number d.naming o) (unwrap_or o (length w.tables.symbols)) d.naming) (declare_in st d.route.target.number d o) d.route.passed d.naming.name (chosen st o)
+    (remember_all_as n (writes.note_symbol (writes.with_found_symbol w d.route.target.number d.naming o) (unwrap_or o (length w.tables.symbols)) d.naming) (declare_in st d.route.target.number d o) d.route.passed d.naming.name (chosen st o)
     (represents_declare_in n w st d.route.target.number d o l h)))
 
 hoist_some : (n : ℕ) (w : WalkState) (st : State) (d : Declaration) (r : PassedSymbol) → r.scope < n → d.route.target.number < n → (r.scope ≡ d.route.target.number → ⊥) → Represents n w st
@@ -190,10 +190,10 @@ pub declare_and_move_as : (n : ℕ) (w : WalkState) (st : State) (d : Declaratio
 declare_and_move_as n w st d l k apart h =
     let c : ℕ = stands_in d in
     let o : Option ℕ = found st c d.naming.name in
-    let done : Represents n (writes.note_symbol (writes.symbol_by w c d.naming o) (unwrap_or o (length w.tables.symbols)) d.naming) (declare_in st c d o) = represents_declare_in n w st c d o l h in
+    let done : Represents n (writes.note_symbol (writes.with_found_symbol w c d.naming o) (unwrap_or o (length w.tables.symbols)) d.naming) (declare_in st c d o) = represents_declare_in n w st c d o l h in
     rw (found_as n w st c d.naming.name h.shows)
-    (subst (λ y. Represents n (reaches.move_out (writes.note_symbol (writes.symbol_by w c d.naming o) y d.naming) c d.route.target.number y d.naming.name) (move_function st d)) (sym (chosen_as n w st o h.shows))
-    (subst (λ p. Represents n (reaches.move_out (writes.note_symbol (writes.symbol_by w c d.naming o) (chosen st o) d.naming) c d.route.target.number (chosen st o) d.naming.name) (move_out (declare_in st c d o) c d.route.target.number d.naming.name (chosen st o) p))
+    (subst (λ y. Represents n (reaches.move_out (writes.note_symbol (writes.with_found_symbol w c d.naming o) y d.naming) c d.route.target.number y d.naming.name) (move_function st d)) (sym (chosen_as n w st o h.shows))
+    (subst (λ p. Represents n (reaches.move_out (writes.note_symbol (writes.with_found_symbol w c d.naming o) (chosen st o) d.naming) c d.route.target.number (chosen st o) d.naming.name) (move_out (declare_in st c d o) c d.route.target.number d.naming.name (chosen st o) p))
     (target_kept st c d.route.target.number d o apart)
-    (move_out_as n (writes.note_symbol (writes.symbol_by w c d.naming o) (chosen st o) d.naming) (declare_in st c d o) c d.route.target.number (chosen st o) d.naming.name l k apart (declared_movable st d c o refl)
-    (subst (λ y. Represents n (writes.note_symbol (writes.symbol_by w c d.naming o) y d.naming) (declare_in st c d o)) (chosen_as n w st o h.shows) done))))
+    (move_out_as n (writes.note_symbol (writes.with_found_symbol w c d.naming o) (chosen st o) d.naming) (declare_in st c d o) c d.route.target.number (chosen st o) d.naming.name l k apart (declared_movable st d c o refl)
+    (subst (λ y. Represents n (writes.note_symbol (writes.with_found_symbol w c d.naming o) y d.naming) (declare_in st c d o)) (chosen_as n w st o h.shows) done))))

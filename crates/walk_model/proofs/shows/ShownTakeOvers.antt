@@ -10,9 +10,9 @@ use Rattle.semantic_syntax.specs.Sets.{meets}
 use Rattle.semantic_syntax.specs.declared.scope_flags.TheConstants.ScopeFlags as scope
 use Rattle.semantic_syntax.specs.Tables.{Bindings, Tables}
 use Rattle.semantic_syntax.specs.Reading.{scope_of}
-use Rattle.semantic_syntax.specs.Writing.{taken_over, with_home}
+use Rattle.semantic_syntax.specs.Writing.{bindings_taken_over, with_home}
 use Rattle.semantic_tree.specs.Views.{is}
-use Rattle.semantic_model.specs.Place.{Place, OpenScope, at}
+use Rattle.semantic_model.specs.Place.{Place, OpenScope, scope_of_place}
 use Rattle.semantic_model.specs.Binding.{Binding, take_over, bound_by}
 use Rattle.semantic_model.specs.Event.{takes_over}
 use Rattle.semantic_model.specs.Fold.{State}
@@ -42,7 +42,7 @@ shown_taken bss bs c b l k apart empty h d =
 
 -- an empty scope takes over
 pub represents_taken : (n : ℕ) (w : WalkState) (st : State) (c b : ℕ) → c < n → b < n → (c ≡ b → ⊥) → bound_by st.bindings b ≡ [] → Represents n w st
-    → Represents n (record w { tables = taken_over w.tables c b }) (act st (takes_over c b))
+    → Represents n (record w { tables = bindings_taken_over w.tables c b }) (act st (takes_over c b))
 represents_taken n w st c b l k apart empty h = record {
   shows = record {
     scopes = length-set (slice_set w.tables.bindings c []) b _ ∙ length-set w.tables.bindings c [] ∙ h.shows.scopes;
@@ -119,8 +119,8 @@ represents_entering n w st p h = evaluated (is_direct_eval p.node) (note_referen
     referred true = represents_refer n w st p h
     referred false = h
 
-    evaluated : (b : Bool) (v : WalkState) → Represents n v st → Represents n (cond b (add_eval v (at p)) v) st
-    evaluated true v k = represents_add_eval n v st (at p) k
+    evaluated : (b : Bool) (v : WalkState) → Represents n v st → Represents n (cond b (add_eval v (scope_of_place p)) v) st
+    evaluated true v k = represents_add_eval n v st (scope_of_place p) k
     evaluated false v k = k
 
 pub represents_closing : (n : ℕ) (w : WalkState) (st : State) (s : ℕ) → Represents n w st → Represents n (close_scope w s) st

@@ -13,7 +13,7 @@ use Rattle.semantic_model.specs.Names.{bound_names, bound_below, names_at}
 use Rattle.semantic_model.specs.Namespace.{InstanceState, non_instantiated, const_enum_only, instantiated, instance_state, nodes_around}
 use Rattle.semantic_model.specs.Place.{Place, OpenScope, parent_holds}
 use Rattle.semantic_model.specs.Declaration.{Declaration, here}
-use Rattle.semantic_model.specs.Binder.{declare, declare_here, variable_row, variables_under, function_row, own_function_row, class_row, is_pure_declarator, ids, marked_ambient, is_statement, parameter_excluded, parameters_under, catch_names, import_flags, enums, member_names, named_member, member_named, namespace_row, type_parameter_route, type_parameter_row, declared_by, declared_inside}
+use Rattle.semantic_model.specs.Binder.{declaration_at, declare_here, variable_row, variables_under, function_row, own_function_row, class_row, is_pure_declarator, ids, marked_ambient, is_statement, parameter_excluded, parameters_under, catch_names, import_flags, enums, member_names, named_member, member_named, namespace_row, type_parameter_route, type_parameter_row, declared_by, declared_inside}
 use Rattle.walk_model.proofs.once.NameTimes.{name_times, declared_times, names_append, declared_append, row_times, here_times}
 use Rattle.walk_model.proofs.sizes.SymbolNodes.{symbol_times, node_symbols, names_symbols, role_symbols, at_symbols}
 
@@ -124,12 +124,12 @@ module _ (x : ℕ) where
   pub opened_within : (k : AstType) (p : Place) (own : OpenScope) → declared_times x (declared_inside k p own) ≤ symbol_times x p.node.children
   opened_within kind.Function p own = by (is_statement p.node)
     where
-      by : (b : Bool) → declared_times x (cond b [] (map (declare p.node (own_function_row p own) (has mark.Pure p.node)) (ids p.node))) ≤ symbol_times x p.node.children
+      by : (b : Bool) → declared_times x (cond b [] (map (declaration_at p.node (own_function_row p own) (has mark.Pure p.node)) (ids p.node))) ≤ symbol_times x p.node.children
       by true = omega arith
       by false = omega (arith, row_times x p.node (own_function_row p own) (has mark.Pure p.node) (ids p.node), at_symbols x role.Id p.node)
   opened_within kind.Class p own = by (is_statement p.node)
     where
-      by : (b : Bool) → declared_times x (cond b [] (map (declare p.node (class_row p (own ∷ [])) false) (ids p.node))) ≤ symbol_times x p.node.children
+      by : (b : Bool) → declared_times x (cond b [] (map (declaration_at p.node (class_row p (own ∷ [])) false) (ids p.node))) ≤ symbol_times x p.node.children
       by true = omega arith
       by false = omega (arith, row_times x p.node (class_row p (own ∷ [])) false (ids p.node), at_symbols x role.Id p.node)
   opened_within kind.TSMappedType p own = omega (arith, row_times x p.node (type_parameter_row (here (own ∷ []))) false (names_at role.Key p.node), at_symbols x role.Key p.node)

@@ -13,8 +13,8 @@ use Rattle.semantic_syntax.specs.Writing.{with_symbol, with_uses, with_home}
 use Rattle.semantic_syntax.specs.Writing as writing
 use Rattle.semantic_tree.specs.Views.{is}
 use Rattle.semantic_model.specs.Naming.{Naming}
-use Rattle.semantic_model.specs.Place.{Place, OpenScope, at, innermost}
-use Rattle.semantic_model.specs.Cursor.{way_of}
+use Rattle.semantic_model.specs.Place.{Place, OpenScope, scope_of_place, innermost}
+use Rattle.semantic_model.specs.Cursor.{way_or_read}
 use Rattle.semantic_model.specs.Declaration.{How, plain, hoisted, moved, caught, Declaration, stands_in}
 use Rattle.semantic_model.specs.Binder.{declared_on_entering, declared_on_opening}
 use Rattle.semantic_model.specs.Event.{takes_over, is_catch_body, taken_over, placed, declares_all}
@@ -26,11 +26,11 @@ use Rattle.semantic_model.specs.TablesOf.{is_direct_eval}
 use Rattle.walk_model.specs.WalkState.{WalkState}
 use Rattle.walk_model.specs.Declares as writes
 use Rattle.walk_model.specs.Hoists as reaches
-use Rattle.walk_model.specs.Opens.{with_eval, open_scope, note_reference, close_scope, add_eval, refer, number_of}
+use Rattle.walk_model.specs.Opens.{with_eval, open_scope, note_reference, close_scope, add_eval, refer, innermost_number}
 use Rattle.walk_model.specs.Settles.{settle, settle_one, tied_to}
 use Rattle.walk_model.specs.Walks.{numbers, declare_by, act_all, prepare, after}
 use Rattle.walk_model.proofs.turns.RowEvents.{acts-append}
-use Rattle.walk_model.specs.Room.{opened_by, declared_by, referred_by}
+use Rattle.walk_model.specs.Room.{opened_by, names_declared_by, referred_by}
 
 -- at most so many come up
 pub record Adds (scopes symbols references : ℕ) (t u : Tables) : Type 0 where
@@ -95,7 +95,7 @@ unite_adds w y d =
     let more : WalkState = writes.redeclare (writes.against w d y) y d in
     changes_then w.tables y (redeclared d (symbol_of w.tables y)) (writes.unite w y d).tables (changes_symbol more.tables y (united d.flags (symbol_of more.tables y)))
 
-found_adds : (w : WalkState) (s : ℕ) (d : Naming) (o : Option ℕ) → Adds 0 1 0 w.tables (writes.symbol_by w s d o).tables
+found_adds : (w : WalkState) (s : ℕ) (d : Naming) (o : Option ℕ) → Adds 0 1 0 w.tables (writes.with_found_symbol w s d o).tables
 found_adds w s d None = make_adds w s d
 found_adds w s d (Some y) = none_is_few 1 w.tables (writes.unite w y d).tables (unite_adds w y d)
 
@@ -196,7 +196,7 @@ pub homes_count : (to : ℕ) (ids : List ℕ) (ys : List Symbol) → length (fol
 homes_count to [] ys = refl
 homes_count to (y ∷ ids) ys = homes_count to ids (with_home to ys y) ∙ length-set ys y (record (slice_index_or ys y no_symbol) { scope = to })
 
-pub taken_adds : (t : Tables) (from to : ℕ) → AddsNone t (writing.taken_over t from to)
+pub taken_adds : (t : Tables) (from to : ℕ) → AddsNone t (writing.bindings_taken_over t from to)
 taken_adds t from to = record { of_scopes = omega arith; of_symbols = omega (arith, homes_count to (values_of (bindings_of t from)) t.symbols); of_references = omega arith }
 
 -- what is settled is there already
@@ -222,11 +222,11 @@ enters_adds : (w : WalkState) (p : Place) → Adds 0 0 (referred_by (entering p)
 enters_adds w p = evaluated (is_direct_eval p.node) (note_reference w p) (referred (is kind.IdentifierReference p.node))
   where
     referred : (b : Bool) → Adds 0 0 (cond b 1 0) w.tables (cond b (refer w p) w).tables
-    referred true = record { of_scopes = omega arith; of_symbols = omega arith; of_references = omega (arith, length-append w.tables.references (record { node_id = p.node.node_id; scope_id = at p; flags = record { bits = way_of p.cursor }; symbol_id = None } ∷ [])) }
+    referred true = record { of_scopes = omega arith; of_symbols = omega arith; of_references = omega (arith, length-append w.tables.references (record { node_id = p.node.node_id; scope_id = scope_of_place p; flags = record { bits = way_or_read p.cursor }; symbol_id = None } ∷ [])) }
     referred false = adds_none w.tables
 
-    evaluated : (b : Bool) (v : WalkState) → Adds 0 0 (referred_by (entering p)) w.tables v.tables → Adds 0 0 (referred_by (entering p)) w.tables (cond b (add_eval v (at p)) v).tables
-    evaluated true v h = then_none 0 0 (referred_by (entering p)) w.tables v.tables (add_eval v (at p)).tables h (eval_adds v (at p))
+    evaluated : (b : Bool) (v : WalkState) → Adds 0 0 (referred_by (entering p)) w.tables v.tables → Adds 0 0 (referred_by (entering p)) w.tables (cond b (add_eval v (scope_of_place p)) v).tables
+    evaluated true v h = then_none 0 0 (referred_by (entering p)) w.tables v.tables (add_eval v (scope_of_place p)).tables h (eval_adds v (scope_of_place p))
     evaluated false v h = h
 
 closes_adds : (w : WalkState) (s : ℕ) → AddsNone w.tables (close_scope w s).tables
@@ -238,7 +238,7 @@ closes_adds w s = by (meets (scope_of w.tables s).flags.bits flag.DirectEval.bit
     by false o = adds_none w.tables
 
 opens_adds : (w : WalkState) (p : Place) (s : OpenScope) → Adds 1 0 0 w.tables (open_scope w p s).tables
-opens_adds w p s = record { of_scopes = omega (arith, length-append w.tables.scopes (record { parent = number_of p.chain; node = s.opener; flags = record { bits = s.flags } } ∷ [])); of_symbols = omega arith; of_references = omega arith }
+opens_adds w p s = record { of_scopes = omega (arith, length-append w.tables.scopes (record { parent = innermost_number p.chain; node = s.opener; flags = record { bits = s.flags } } ∷ [])); of_symbols = omega arith; of_references = omega arith }
 
 taken_if : (p : Place) (s : OpenScope) (w : WalkState) → AddsNone w.tables (act_all w (taken_over p s)).tables
 taken_if p s w = by (is_catch_body p)
@@ -248,17 +248,17 @@ taken_if p s w = by (is_catch_body p)
     by false = adds_none w.tables
 
 -- what one step adds, of each kind
-pub step_adds : (ds : List Declaration) (w : WalkState) (step : Step) → Adds (opened_by step) (declared_by step) (referred_by step) w.tables (after ds w step).tables
+pub step_adds : (ds : List Declaration) (w : WalkState) (step : Step) → Adds (opened_by step) (names_declared_by step) (referred_by step) w.tables (after ds w step).tables
 step_adds ds w (entering p) =
     let here : Adds 0 0 (referred_by (entering p)) w.tables (prepare w (entering p)).tables = enters_adds w p in
-    let more : Adds 0 (declared_by (entering p)) 0 (prepare w (entering p)).tables (after ds w (entering p)).tables = declares_add ds (declared_on_entering p) (prepare w (entering p)) in
+    let more : Adds 0 (names_declared_by (entering p)) 0 (prepare w (entering p)).tables (after ds w (entering p)).tables = declares_add ds (declared_on_entering p) (prepare w (entering p)) in
     record { of_scopes = omega (arith, here.of_scopes, more.of_scopes); of_symbols = omega (arith, here.of_symbols, more.of_symbols); of_references = omega (arith, here.of_references, more.of_references) }
 step_adds ds w (opening p s) =
     let opened : WalkState = open_scope w p s in
     let took : WalkState = act_all opened (taken_over p s) in
     let here : Adds 1 0 0 w.tables took.tables = then_none 1 0 0 w.tables opened.tables took.tables (opens_adds w p s) (taken_if p s opened) in
-    let more : Adds 0 (declared_by (opening p s)) 0 took.tables (act_all took (declares_all ds (declared_on_opening p s))).tables = declares_add ds (declared_on_opening p s) took in
-    subst (λ (v : WalkState). Adds 1 (declared_by (opening p s)) 0 w.tables v.tables) (sym (acts-append opened (taken_over p s) (declares_all ds (declared_on_opening p s))))
+    let more : Adds 0 (names_declared_by (opening p s)) 0 took.tables (act_all took (declares_all ds (declared_on_opening p s))).tables = declares_add ds (declared_on_opening p s) took in
+    subst (λ (v : WalkState). Adds 1 (names_declared_by (opening p s)) 0 w.tables v.tables) (sym (acts-append opened (taken_over p s) (declares_all ds (declared_on_opening p s))))
     (record { of_scopes = omega (arith, here.of_scopes, more.of_scopes); of_symbols = omega (arith, here.of_symbols, more.of_symbols); of_references = omega (arith, here.of_references, more.of_references) })
 step_adds ds w (header_ending p s) = settle_adds w.tables w.waiting (map (header_outcome (source_of w.tables) s.number) w.waiting)
 step_adds ds w (closing p s) = closes_adds w s.number

@@ -8,7 +8,7 @@ use Rattle.semantic_model.specs.Fold.{Made, start}
 use Rattle.semantic_model.specs.Hoist.{run}
 use Rattle.semantic_model.proofs.steps.Opened.{openings}
 use Rattle.walk_model.proofs.once.Weighing.{declared_weight, step_weight, made_weight, made_weighs}
-use Rattle.walk_model.specs.Room.{opened_by, declared_by, in_all}
+use Rattle.walk_model.specs.Room.{opened_by, names_declared_by, in_all}
 
 pub all-append : (by : Step → ℕ) (xs ys : List Step) → in_all by (xs ++ ys) ≡ in_all by xs + in_all by ys
 all-append by [] ys = omega arith
@@ -30,7 +30,7 @@ declared_count : (ds : List Declaration) → declared_weight one_each ds ≡ len
 declared_count [] = refl
 declared_count (d ∷ ds) = omega (arith, declared_count ds)
 
-steps_count : (ss : List Step) → step_weight one_each ss ≡ in_all declared_by ss
+steps_count : (ss : List Step) → step_weight one_each ss ≡ in_all names_declared_by ss
 steps_count [] = refl
 steps_count (s ∷ ss) = omega (arith, declared_count (declared_at s), steps_count ss)
 
@@ -39,5 +39,5 @@ all_count [] = refl
 all_count (m ∷ ms) = omega (arith, all_count ms)
 
 -- as many are made as the steps of the program declare
-pub made_count : (p : Tree) → length (run start (events (steps p))).made ≡ in_all declared_by (steps p)
+pub made_count : (p : Tree) → length (run start (events (steps p))).made ≡ in_all names_declared_by (steps p)
 made_count p = omega (arith, all_count (run start (events (steps p))).made, made_weighs one_each p, steps_count (steps p))

@@ -15,7 +15,7 @@ use Rattle.semantic_model.proofs.steps.Opened.{opened_by_node}
 use Rattle.walk_model.specs.WalkState.{no_tables, nothing_made}
 use Rattle.walk_model.specs.Walks.{after_all}
 use Rattle.semantic_tree.specs.KindCounts.{how_many}
-use Rattle.walk_model.specs.Counted.{is_symbol, is_reference}
+use Rattle.walk_model.specs.Counted.{declares_symbol, is_reference}
 use Rattle.walk_model.specs.Room.{HasRoom}
 use Rattle.walk_model.proofs.sizes.InSteps.{openings_are, made_count}
 use Rattle.walk_model.proofs.sizes.References.{entered_counted}
@@ -42,7 +42,7 @@ program_room p h e =
     let shaped : IsShaped p = no_fault-IsShaped p h in
     record {
       scopes = omega (arith, openings_are (steps p), opened_by_node (root_place p) 0, one_or_none (opens p.root.kind), opens_few p.root.children, shaped.nodes);
-      symbols = omega (arith, made_count p, made_counted p h e, passes_few is_symbol (single role.Root p.root), shaped.nodes);
+      symbols = omega (arith, made_count p, made_counted p h e, passes_few declares_symbol (single role.Root p.root), shaped.nodes);
       references = omega (arith, entered_counted p, passes_few is_reference (single role.Root p.root), shaped.nodes);
     }
 

@@ -5,12 +5,12 @@ use Rattle.semantic_model.specs.Declaration.{Declaration}
 use Rattle.semantic_model.specs.Step.{Step}
 use Rattle.walk_model.specs.WalkState.{WalkState}
 use Rattle.walk_model.specs.Walks.{after, after_all}
-use Rattle.walk_model.specs.Room.{opened_by, declared_by, referred_by, HasRoom}
+use Rattle.walk_model.specs.Room.{opened_by, names_declared_by, referred_by, HasRoom}
 use Rattle.walk_model.proofs.sizes.InSteps.{all-append}
 use Rattle.walk_model.proofs.sizes.Growth.{Adds, step_adds}
 
 -- once the first step is done
-pub room_once : (t u : Tables) (step : Step) (more : List Step) → HasRoom t (step ∷ more) → Adds (opened_by step) (declared_by step) (referred_by step) t u → HasRoom u more
+pub room_once : (t u : Tables) (step : Step) (more : List Step) → HasRoom t (step ∷ more) → Adds (opened_by step) (names_declared_by step) (referred_by step) t u → HasRoom u more
 room_once t u step more h a = record {
   scopes = omega (arith, h.scopes, a.of_scopes);
   symbols = omega (arith, h.symbols, a.of_symbols);
@@ -28,6 +28,6 @@ room_past ds w (x ∷ xs) ys h = room_past ds (after ds w x) xs ys (room_after d
 pub room_first : (t : Tables) (xs ys : List Step) → HasRoom t (xs ++ ys) → HasRoom t xs
 room_first t xs ys h = record {
   scopes = omega (arith, h.scopes, all-append opened_by xs ys);
-  symbols = omega (arith, h.symbols, all-append declared_by xs ys);
+  symbols = omega (arith, h.symbols, all-append names_declared_by xs ys);
   references = omega (arith, h.references, all-append referred_by xs ys);
 }

@@ -13,21 +13,21 @@ use Rattle.semantic_tree.specs.Views.{is_role_of, children_of}
 use Rattle.semantic_model.specs.Names.{binding_roles, bound_below, bound_names, names_at}
 use Rattle.walk_model.proofs.once.NameTimes.{name_times, names_append}
 use Rattle.semantic_tree.specs.KindCounts.{how_many}
-use Rattle.walk_model.specs.Counted.{is_symbol}
+use Rattle.walk_model.specs.Counted.{declares_symbol}
 
 -- the ids of the nodes that may declare a symbol
 abbrev pub symbol_ids : Forest → List ℕ
 symbol_ids nothing = []
-symbol_ids (tree r k span text marks below id after) = cond (is_symbol k) (id ∷ []) [] ++ (symbol_ids below ++ symbol_ids after)
+symbol_ids (tree r k span text marks below id after) = cond (declares_symbol k) (id ∷ []) [] ++ (symbol_ids below ++ symbol_ids after)
 
-pub ids_counted : (f : Forest) → length (symbol_ids f) ≡ how_many is_symbol f
+pub ids_counted : (f : Forest) → length (symbol_ids f) ≡ how_many declares_symbol f
 ids_counted nothing = refl
 ids_counted (tree r k span text marks below id after) =
     omega (
       arith,
-      length-append (cond (is_symbol k) (id ∷ []) []) (symbol_ids below ++ symbol_ids after),
+      length-append (cond (declares_symbol k) (id ∷ []) []) (symbol_ids below ++ symbol_ids after),
       length-append (symbol_ids below) (symbol_ids after),
-      one (is_symbol k),
+      one (declares_symbol k),
       ids_counted below,
       ids_counted after,
     )
@@ -40,11 +40,11 @@ module _ (x : ℕ) where
   -- among the nodes of a forest that may declare a symbol
   abbrev pub symbol_times : Forest → ℕ
   symbol_times nothing = 0
-  symbol_times (tree r k span text marks below id after) = cond (is_symbol k && id == x) 1 0 + symbol_times below + symbol_times after
+  symbol_times (tree r k span text marks below id after) = cond (declares_symbol k && id == x) 1 0 + symbol_times below + symbol_times after
 
   -- among a node and those below it
   abbrev pub node_symbols : Node → ℕ
-  node_symbols node = cond (is_symbol node.kind && node.node_id == x) 1 0 + symbol_times node.children
+  node_symbols node = cond (declares_symbol node.kind && node.node_id == x) 1 0 + symbol_times node.children
 
   times_append : (xs ys : List ℕ) → times x (xs ++ ys) ≡ times x xs + times x ys
   times_append [] ys = omega arith
@@ -55,9 +55,9 @@ module _ (x : ℕ) where
   ids_times (tree r k span text marks below id after) =
       omega (
         arith,
-        times_append (cond (is_symbol k) (id ∷ []) []) (symbol_ids below ++ symbol_ids after),
+        times_append (cond (declares_symbol k) (id ∷ []) []) (symbol_ids below ++ symbol_ids after),
         times_append (symbol_ids below) (symbol_ids after),
-        one (is_symbol k),
+        one (declares_symbol k),
         ids_times below,
         ids_times after,
       )
@@ -67,7 +67,7 @@ module _ (x : ℕ) where
       one false = refl
 
   -- a binding identifier is such a node
-  own_symbol : (node : Node) → same_kind node.kind kind.BindingIdentifier ≡ true → cond (node.node_id == x) 1 0 ≤ cond (is_symbol node.kind && node.node_id == x) 1 0
+  own_symbol : (node : Node) → same_kind node.kind kind.BindingIdentifier ≡ true → cond (node.node_id == x) 1 0 ≤ cond (declares_symbol node.kind && node.node_id == x) 1 0
   own_symbol node e = rw e (omega arith)
 
   -- the names that a node binds are such nodes
@@ -83,7 +83,7 @@ module _ (x : ℕ) where
       )
     where
       by : (node : Node) (b : Bool) → name_times x (bound_below inner below) ≤ symbol_times below
-          → name_times x (cond b (cond (same_kind node.kind kind.BindingIdentifier) (node ∷ []) (bound_below inner below)) []) ≤ cond (is_symbol node.kind && node.node_id == x) 1 0 + symbol_times below
+          → name_times x (cond b (cond (same_kind node.kind kind.BindingIdentifier) (node ∷ []) (bound_below inner below)) []) ≤ cond (declares_symbol node.kind && node.node_id == x) 1 0 + symbol_times below
       by node false h = omega arith
       by node true h = elim (cases_Bool (same_kind node.kind kind.BindingIdentifier)) [
         | inl e ↦ (let own = own_symbol node e in rw e (omega (arith, rw e at own)))

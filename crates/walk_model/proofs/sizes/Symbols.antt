@@ -19,7 +19,7 @@ use Rattle.semantic_model.proofs.lists.Bounds.{update_length}
 use Rattle.walk_model.proofs.once.SymbolsOnce.{nodes_are, symbols_times}
 use Rattle.walk_model.proofs.once.Weighing.{identifiers}
 use Rattle.semantic_tree.specs.KindCounts.{how_many}
-use Rattle.walk_model.specs.Counted.{is_symbol}
+use Rattle.walk_model.specs.Counted.{declares_symbol}
 use Rattle.walk_model.proofs.sizes.Fewer.{no_longer}
 use Rattle.walk_model.proofs.sizes.SymbolNodes.{symbol_ids, ids_counted, ids_times}
 use Rattle.walk_model.proofs.sizes.MadeOnce.{made_within}
@@ -106,7 +106,7 @@ identifiers_fewer p h e x =
     ]
 
 -- so no more are made than there are nodes that may declare one
-pub made_counted : (p : Tree) → first_fault p ≡ None → IsNumbered p.root → length (run start (events (steps p))).made ≤ how_many is_symbol (single role.Root p.root)
+pub made_counted : (p : Tree) → first_fault p ≡ None → IsNumbered p.root → length (run start (events (steps p))).made ≤ how_many declares_symbol (single role.Root p.root)
 made_counted p h e =
     let ms : List Made = (run start (events (steps p))).made in
     omega (
@@ -116,5 +116,5 @@ made_counted p h e =
       ids_counted (single role.Root p.root),
     )
 
-pub symbols_counted : (p : Tree) → first_fault p ≡ None → IsNumbered p.root → length (tables_of p).symbols ≤ how_many is_symbol (single role.Root p.root)
+pub symbols_counted : (p : Tree) → first_fault p ≡ None → IsNumbered p.root → length (tables_of p).symbols ≤ how_many declares_symbol (single role.Root p.root)
 symbols_counted p h e = omega (arith, symbols_made (events (steps p)), made_counted p h e)

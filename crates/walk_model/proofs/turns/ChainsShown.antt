@@ -13,17 +13,17 @@ use Rattle.semantic_syntax.specs.Sets.{meets}
 use Rattle.semantic_syntax.specs.Tables.{Scope, Tables}
 use Rattle.semantic_syntax.specs.Reading.{scope_of, no_scope}
 use Rattle.semantic_tree.specs.Views.{is}
-use Rattle.semantic_model.specs.Place.{Place, OpenScope, at, outside}
+use Rattle.semantic_model.specs.Place.{Place, OpenScope, scope_of_place, outside}
 use Rattle.semantic_model.specs.Inside.{is_inside, is_in_header, is_parameter_decorator}
 use Rattle.semantic_model.specs.Declaration.{Declaration}
-use Rattle.semantic_model.specs.Step.{Step, entering, opening, header_ending, closing, leaving, child_place, chain_within}
+use Rattle.semantic_model.specs.Step.{Step, entering, opening, header_ending, closing, leaving, child_place, child_scopes}
 use Rattle.semantic_model.specs.Event.{Event, declares, takes_over, ends_header, events_of}
 use Rattle.semantic_syntax.specs.Outcome.{Pending, Outcome}
 use Rattle.semantic_model.specs.TablesOf.{is_direct_eval}
 use Rattle.semantic_model.proofs.steps.Opened.{openings}
 use Rattle.walk_model.specs.WalkState.{WalkState}
 use Rattle.walk_model.specs.Settles.{settle, settle_by, end_header, settle_rest}
-use Rattle.walk_model.specs.Opens.{number_of, with_eval, add_eval, note_eval, refer, note_reference, open_scope, close_scope}
+use Rattle.walk_model.specs.Opens.{innermost_number, with_eval, add_eval, note_eval, refer, note_reference, open_scope, close_scope}
 use Rattle.walk_model.specs.Walks.{act, act_all, prepare, after, after_all}
 use Rattle.walk_model.proofs.shows.ShownTakeOvers.{Kept, settle_keeps}
 use Rattle.walk_model.proofs.places.Nested.{Descends}
@@ -80,8 +80,8 @@ eval_rows w s = record {
 pub note_eval_rows : (w : WalkState) (p : Place) → KeepsRows w.tables (note_eval w p).tables
 note_eval_rows w p = by (is_direct_eval p.node)
   where
-    by : (b : Bool) → KeepsRows w.tables (cond b (add_eval w (at p)) w).tables
-    by true = eval_rows w (at p)
+    by : (b : Bool) → KeepsRows w.tables (cond b (add_eval w (scope_of_place p)) w).tables
+    by true = eval_rows w (scope_of_place p)
     by false = same_rows w.tables w.tables refl
 
 pub note_reference_rows : (w : WalkState) (p : Place) → KeepsRows w.tables (note_reference w p).tables
@@ -108,7 +108,7 @@ open_rows w p s = record {
 }
   where
     new : Scope
-    new = record { parent = number_of p.chain; node = s.opener; flags = record { bits = s.flags } }
+    new = record { parent = innermost_number p.chain; node = s.opener; flags = record { bits = s.flags } }
 
     there : (i : ℕ) → i < length w.tables.scopes → scope_of (open_scope w p s).tables i ≡ scope_of w.tables i
     there i l = get_or_append_left w.tables.scopes (new ∷ []) no_scope i l
@@ -172,7 +172,7 @@ chain_after ds w step chain h = chain_kept w.tables (after ds w step).tables cha
 pub chain_after_all : (ds : List Declaration) (w : WalkState) (ss : List Step) (chain : List OpenScope) → ShowsChain w.tables chain → ShowsChain (after_all ds w ss).tables chain
 chain_after_all ds w ss chain h = chain_kept w.tables (after_all ds w ss).tables chain (steps_rows ds w ss) h
 
-pub head_within : (t : Tables) (chain : List OpenScope) → ShowsChain t chain → IfSome (number_of chain) (λ p. p < length t.scopes)
+pub head_within : (t : Tables) (chain : List OpenScope) → ShowsChain t chain → IfSome (innermost_number chain) (λ p. p < length t.scopes)
 head_within t [] h = tt
 head_within t (s ∷ ss) h = h.0.within
 
@@ -184,13 +184,13 @@ opened_chain w p s e h = (
     parent = ap (λ x. x.parent) here;
     node = ap (λ x. x.node) here;
     flags = λ bits o. ap (λ x. meets x.flags.bits bits) here;
-    falls = subst (λ n. IfSome (number_of p.chain) (λ q. q < n)) (sym e) (head_within w.tables p.chain h);
+    falls = subst (λ n. IfSome (innermost_number p.chain) (λ q. q < n)) (sym e) (head_within w.tables p.chain h);
   },
   chain_kept w.tables (open_scope w p s).tables p.chain (open_rows w p s) h,
 )
   where
     new : Scope
-    new = record { parent = number_of p.chain; node = s.opener; flags = record { bits = s.flags } }
+    new = record { parent = innermost_number p.chain; node = s.opener; flags = record { bits = s.flags } }
 
     there : (n : ℕ) → n ≡ length w.tables.scopes + 0 → slice_index_or (w.tables.scopes ++ new ∷ []) n no_scope ≡ new
     there n q = ap (λ m. slice_index_or (w.tables.scopes ++ new ∷ []) m no_scope) q ∙ get_or-append-add w.tables.scopes (new ∷ []) 0 no_scope
@@ -218,7 +218,7 @@ own_kept t u p (Some s) k h = chain_kept t u (s ∷ p.chain) k h
 pub child_shown : (t : Tables) (p : Place) (own : Option OpenScope) (cursor : ℕ) (r : Role) (node : Node) → ShowsChain t p.chain → ShowsOwn t p own → ShowsChain t (child_place p own cursor r node).chain
 child_shown t p own cursor r node h o = go (is_parameter_decorator p.node.kind r)
   where
-    within : (c : Option OpenScope) → ShowsOwn t p c → ShowsChain t (chain_within p r c)
+    within : (c : Option OpenScope) → ShowsOwn t p c → ShowsChain t (child_scopes p r c)
     within None k = h
     within (Some s) k = by (is_inside p.node.kind r)
       where
@@ -226,12 +226,12 @@ child_shown t p own cursor r node h o = go (is_parameter_decorator p.node.kind r
         by true = in_header_chain t s (is_in_header p.node.kind r) p.chain k
         by false = h
 
-    go : (b : Bool) → ShowsChain t (cond b (outside p.chain) (chain_within p r own))
+    go : (b : Bool) → ShowsChain t (cond b (outside p.chain) (child_scopes p r own))
     go true = outside_shown t p.chain h
     go false = within own o
 
 -- numbers fall from inner to outer
-pub shown_descends : (t : Tables) (n : ℕ) (chain : List OpenScope) → IfSome (number_of chain) (λ p. p < n) → ShowsChain t chain → Descends n chain
+pub shown_descends : (t : Tables) (n : ℕ) (chain : List OpenScope) → IfSome (innermost_number chain) (λ p. p < n) → ShowsChain t chain → Descends n chain
 shown_descends t n [] l h = tt
 shown_descends t n (s ∷ ss) l h = (l, shown_descends t s.number ss h.0.falls h.1)
 
@@ -250,8 +250,8 @@ after_count ds w (step ∷ more) = by step (after_count ds (after ds w step) mor
     refer_count true p = refl
     refer_count false p = refl
 
-    note_count : (b : Bool) (v : WalkState) (p : Place) → length (cond b (add_eval v (at p)) v).tables.scopes ≡ length v.tables.scopes
-    note_count true v p = eval_count v (at p)
+    note_count : (b : Bool) (v : WalkState) (p : Place) → length (cond b (add_eval v (scope_of_place p)) v).tables.scopes ≡ length v.tables.scopes
+    note_count true v p = eval_count v (scope_of_place p)
     note_count false v p = refl
 
     close_count : (b : Bool) (o : Option ℕ) → length (cond b (option_map_or (add_eval w) o w) w).tables.scopes ≡ length w.tables.scopes
@@ -267,7 +267,7 @@ after_count ds w (step ∷ more) = by step (after_count ds (after ds w step) mor
       note_count (is_direct_eval p.node) (note_reference w p) p,
       refer_count (is kind.IdentifierReference p.node) p,
     )
-    by (opening p s) h = omega (arith, h, ap length (acts_scopes (prepare w (opening p s)) (events_of ds (opening p s))), length-append w.tables.scopes (record { parent = number_of p.chain; node = s.opener; flags = record { bits = s.flags } } ∷ []))
+    by (opening p s) h = omega (arith, h, ap length (acts_scopes (prepare w (opening p s)) (events_of ds (opening p s))), length-append w.tables.scopes (record { parent = innermost_number p.chain; node = s.opener; flags = record { bits = s.flags } } ∷ []))
     by (header_ending p s) h = omega (arith, h, ap length (acts_scopes w (events_of ds (header_ending p s))))
     by (closing p s) h = omega (arith, h, close_count (meets (scope_of w.tables s.number).flags.bits flag.DirectEval.bits) (scope_of w.tables s.number).parent)
     by (leaving p) h = h

@@ -15,7 +15,7 @@ use Rattle.semantic_model.proofs.steps.Turns.{steps_turn, steps_end}
 use Rattle.walk_model.specs.WalkState.{WalkState}
 use Rattle.walk_model.specs.Walks.{after, after_all}
 use Rattle.walk_model.proofs.turns.ChainsShown.{KeepsRows, own_kept, chain_kept, step_rows, steps_rows, opening_chain, child_shown, after_count}
-pub use Rattle.walk_model.specs.Recursion.{StandsAt}
+pub use Rattle.walk_model.specs.Recursion.{WalkStandsAt}
 
 -- steps, and then others
 pub after-append : (ds : List Declaration) (w : WalkState) (xs ys : List Step) → after_all ds w (xs ++ ys) ≡ after_all ds (after_all ds w xs) ys
@@ -73,17 +73,17 @@ count_ending ds w p r own rest = omega (arith, after_count ds w (ending_after p 
 pub count_below : (ds : List Declaration) (w : WalkState) (p : Place) (own : Option OpenScope) (n cursor : ℕ) (f : Forest) → length (after_all ds w (steps_below p own n cursor f)).tables.scopes ≡ length w.tables.scopes + left_to_open own p + scopes_in f
 count_below ds w p own n cursor f = omega (arith, after_count ds w (steps_below p own n cursor f), opened_below p own n cursor f)
 
-pub stands_kept : (w v : WalkState) (p : Place) (own : Option OpenScope) (n m : ℕ) → KeepsRows w.tables v.tables → length v.tables.scopes ≡ m → StandsAt w p own n → StandsAt v p own m
+pub stands_kept : (w v : WalkState) (p : Place) (own : Option OpenScope) (n m : ℕ) → KeepsRows w.tables v.tables → length v.tables.scopes ≡ m → WalkStandsAt w p own n → WalkStandsAt v p own m
 stands_kept w v p own n m k e h = record { count = e; chain = chain_kept w.tables v.tables p.chain k h.chain; shown = own_kept w.tables v.tables p own k h.shown }
 
-pub stands_entering : (ds : List Declaration) (w : WalkState) (p : Place) (own : Option OpenScope) (n : ℕ) → StandsAt w p own n → StandsAt (after ds w (entering p)) p own n
+pub stands_entering : (ds : List Declaration) (w : WalkState) (p : Place) (own : Option OpenScope) (n : ℕ) → WalkStandsAt w p own n → WalkStandsAt (after ds w (entering p)) p own n
 stands_entering ds w p own n h = stands_kept w (after ds w (entering p)) p own n n (step_rows ds w (entering p)) (omega (arith, after_count ds w (entering p ∷ []), h.count)) h
 
-pub stands_opening : (ds : List Declaration) (w : WalkState) (p : Place) (r : Role) (own : Option OpenScope) (n : ℕ) → StandsAt w p own n → StandsAt (after_all ds w (opening_at p r own n)) p (scope_at p r own n) (next_at p r own n)
+pub stands_opening : (ds : List Declaration) (w : WalkState) (p : Place) (r : Role) (own : Option OpenScope) (n : ℕ) → WalkStandsAt w p own n → WalkStandsAt (after_all ds w (opening_at p r own n)) p (scope_at p r own n) (next_at p r own n)
 stands_opening ds w p r (Some s) n h = h
 stands_opening ds w p r None n h = by (is_inside p.node.kind r)
   where
-    by : (b : Bool) → StandsAt (after_all ds w (cond b (opening p (opened_scope p n) ∷ []) [])) p (cond b (Some (opened_scope p n)) None) (cond b (suc n) n)
+    by : (b : Bool) → WalkStandsAt (after_all ds w (cond b (opening p (opened_scope p n) ∷ []) [])) p (cond b (Some (opened_scope p n)) None) (cond b (suc n) n)
     by true = record {
       count = omega (arith, after_count ds w (opening p (opened_scope p n) ∷ []), h.count);
       chain = chain_kept w.tables (after ds w (opening p (opened_scope p n))).tables p.chain (step_rows ds w (opening p (opened_scope p n))) h.chain;
@@ -92,14 +92,14 @@ stands_opening ds w p r None n h = by (is_inside p.node.kind r)
     by false = h
 
 -- so it stands at a child before its steps
-pub stands_child : (w : WalkState) (p : Place) (own : Option OpenScope) (n cursor : ℕ) (r : Role) (node : Node) → StandsAt w p own n → StandsAt w (child_place p own cursor r node) None n
+pub stands_child : (w : WalkState) (p : Place) (own : Option OpenScope) (n cursor : ℕ) (r : Role) (node : Node) → WalkStandsAt w p own n → WalkStandsAt w (child_place p own cursor r node) None n
 stands_child w p own n cursor r node h = record { count = h.count; chain = child_shown w.tables p own cursor r node h.chain h.shown; shown = tt }
 
 -- and behind them
-pub stands_past : (ds : List Declaration) (w : WalkState) (p child : Place) (own : Option OpenScope) (n : ℕ) → StandsAt w p own n → StandsAt (after_all ds w (steps_of child n)) p own (n + cond (opens child.node.kind) 1 0 + scopes_in child.node.children)
+pub stands_past : (ds : List Declaration) (w : WalkState) (p child : Place) (own : Option OpenScope) (n : ℕ) → WalkStandsAt w p own n → WalkStandsAt (after_all ds w (steps_of child n)) p own (n + cond (opens child.node.kind) 1 0 + scopes_in child.node.children)
 stands_past ds w p child own n h =
     stands_kept w (after_all ds w (steps_of child n)) p own n (n + cond (opens child.node.kind) 1 0 + scopes_in child.node.children) (steps_rows ds w (steps_of child n)) (omega (arith, count_node ds w child n, h.count)) h
 
-pub stands_ending : (ds : List Declaration) (w : WalkState) (p : Place) (r : Role) (own : Option OpenScope) (rest : Forest) (n : ℕ) → StandsAt w p own n → StandsAt (after_all ds w (ending_after p r own rest)) p own n
+pub stands_ending : (ds : List Declaration) (w : WalkState) (p : Place) (r : Role) (own : Option OpenScope) (rest : Forest) (n : ℕ) → WalkStandsAt w p own n → WalkStandsAt (after_all ds w (ending_after p r own rest)) p own n
 stands_ending ds w p r own rest n h =
     stands_kept w (after_all ds w (ending_after p r own rest)) p own n n (steps_rows ds w (ending_after p r own rest)) (omega (arith, count_ending ds w p r own rest, h.count)) h

@@ -14,7 +14,7 @@ use Rattle.semantic_syntax.specs.Source.{chain_within, chain}
 use Rattle.semantic_syntax.specs.Reading.{scope_of, no_scope, parent_of}
 use Rattle.semantic_syntax.specs.Told.{source_of}
 use Rattle.semantic_tree.specs.Views.{is}
-use Rattle.semantic_model.specs.Place.{Place, OpenScope, at}
+use Rattle.semantic_model.specs.Place.{Place, OpenScope, scope_of_place}
 use Rattle.semantic_model.specs.Declaration.{Declaration}
 use Rattle.semantic_syntax.specs.Members.{contains}
 use Rattle.semantic_model.specs.Step.{Step, entering, opening, header_ending, closing, leaving}
@@ -24,7 +24,7 @@ use Rattle.semantic_model.specs.TablesOf.{is_direct_eval}
 use Rattle.semantic_syntax.specs.Outcome.{Pending, Outcome, means, is_free, waits, outcome_or, waits_outside, is_below, lookup_along, up_to, header_outcome, staying, waiting_on, looked_up_from}
 use Rattle.walk_model.specs.WalkState.{WalkState}
 use Rattle.walk_model.specs.Settles.{settle, end_header}
-use Rattle.walk_model.specs.Opens.{number_of, with_eval, add_eval, note_eval, refer, note_reference, open_scope}
+use Rattle.walk_model.specs.Opens.{innermost_number, with_eval, add_eval, note_eval, refer, note_reference, open_scope}
 use Rattle.walk_model.specs.Walks.{prepare, after, after_all}
 use Rattle.walk_model.proofs.opens.LeftByDeclaring.{Untouched, acts_untouched}
 use Rattle.walk_model.proofs.opens.OpenedScopes.{entering_declares, opening_declares}
@@ -230,11 +230,11 @@ untouched_goes start w v u h k = record {
   sound = same_sound v u k.scopes k.waiting h.sound;
 }
 
-refer_goes : (start : ℕ) (w : WalkState) (p : Place) → at p < length w.tables.scopes → start ≤ length w.waiting → IsSound w → GoesOn start w (note_reference w p)
+refer_goes : (start : ℕ) (w : WalkState) (p : Place) → scope_of_place p < length w.tables.scopes → start ≤ length w.waiting → IsSound w → GoesOn start w (note_reference w p)
 refer_goes start w p l enough s = by (is kind.IdentifierReference p.node)
   where
     new : Pending
-    new = record { name = p.node.text; reference = length w.tables.references; lookup_scope = at p }
+    new = record { name = p.node.text; reference = length w.tables.references; lookup_scope = scope_of_place p }
 
     by : (b : Bool) → GoesOn start w (cond b (refer w p) w)
     by true = record {
@@ -246,16 +246,16 @@ refer_goes start w p l enough s = by (is kind.IdentifierReference p.node)
 note_goes : (start : ℕ) (w v : WalkState) (p : Place) → GoesOn start w v → GoesOn start w (note_eval v p)
 note_goes start w v p h = by (is_direct_eval p.node)
   where
-    by : (b : Bool) → GoesOn start w (cond b (add_eval v (at p)) v)
-    by true = record { before = record { enough = h.before.enough; same = h.before.same }; sound = eval_sound v (at p) h.sound }
+    by : (b : Bool) → GoesOn start w (cond b (add_eval v (scope_of_place p)) v)
+    by true = record { before = record { enough = h.before.enough; same = h.before.same }; sound = eval_sound v (scope_of_place p) h.sound }
     by false = h
 
-pub entering_goes : (ds : List Declaration) (start : ℕ) (w : WalkState) (p : Place) → at p < length w.tables.scopes → start ≤ length w.waiting → IsSound w → GoesOn start w (after ds w (entering p))
+pub entering_goes : (ds : List Declaration) (start : ℕ) (w : WalkState) (p : Place) → scope_of_place p < length w.tables.scopes → start ≤ length w.waiting → IsSound w → GoesOn start w (after ds w (entering p))
 entering_goes ds start w p l enough s =
     untouched_goes start w (prepare w (entering p)) (after ds w (entering p)) (note_goes start w (note_reference w p) p (refer_goes start w p l enough s))
     (acts_untouched (prepare w (entering p)) (events_of ds (entering p)) (entering_declares ds p))
 
-open_goes : (start : ℕ) (w : WalkState) (p : Place) (s : OpenScope) → IfSome (number_of p.chain) (λ q. q < length w.tables.scopes) → start ≤ length w.waiting → IsSound w → GoesOn start w (open_scope w p s)
+open_goes : (start : ℕ) (w : WalkState) (p : Place) (s : OpenScope) → IfSome (innermost_number p.chain) (λ q. q < length w.tables.scopes) → start ≤ length w.waiting → IsSound w → GoesOn start w (open_scope w p s)
 open_goes start w p s l enough h = record {
   before = record { enough = enough; same = refl };
   sound = record {
@@ -265,9 +265,9 @@ open_goes start w p s l enough h = record {
 }
   where
     new : Scope
-    new = record { parent = number_of p.chain; node = s.opener; flags = record { bits = s.flags } }
+    new = record { parent = innermost_number p.chain; node = s.opener; flags = record { bits = s.flags } }
 
-pub opening_goes : (ds : List Declaration) (start : ℕ) (w : WalkState) (p : Place) (s : OpenScope) → IfSome (number_of p.chain) (λ q. q < length w.tables.scopes) → start ≤ length w.waiting → IsSound w → GoesOn start w (after ds w (opening p s))
+pub opening_goes : (ds : List Declaration) (start : ℕ) (w : WalkState) (p : Place) (s : OpenScope) → IfSome (innermost_number p.chain) (λ q. q < length w.tables.scopes) → start ≤ length w.waiting → IsSound w → GoesOn start w (after ds w (opening p s))
 opening_goes ds start w p s l enough h =
     untouched_goes start w (open_scope w p s) (after ds w (opening p s)) (open_goes start w p s l enough h)
     (acts_untouched (open_scope w p s) (events_of ds (opening p s)) (opening_declares ds p s))
@@ -296,8 +296,8 @@ ending_goes ds c start w p s l k h f = record { before = end_keeps w c s.number 
 -- steps in scopes that exist, of which so many are opened before; headers end of no scope before the scope
 abbrev pub StepsFrom : (c n : ℕ) → List Step → Type 0
 StepsFrom c n [] = Unit {0}
-StepsFrom c n (entering p ∷ ss) = (at p < n) × StepsFrom c n ss
-StepsFrom c n (opening p s ∷ ss) = IfSome (number_of p.chain) (λ q. q < n) × StepsFrom c (suc n) ss
+StepsFrom c n (entering p ∷ ss) = (scope_of_place p < n) × StepsFrom c n ss
+StepsFrom c n (opening p s ∷ ss) = IfSome (innermost_number p.chain) (λ q. q < n) × StepsFrom c (suc n) ss
 StepsFrom c n (header_ending p s ∷ ss) = ((c ≤ s.number) × (s.number < n)) × StepsFrom c n ss
 StepsFrom c n (closing p s ∷ ss) = StepsFrom c n ss
 StepsFrom c n (leaving p ∷ ss) = StepsFrom c n ss
@@ -310,7 +310,7 @@ steps_go ds c start n w (entering p ∷ ss) k e s f =
     goes_then start w (after ds w (entering p)) (after_all ds w (entering p ∷ ss)) g.before
     (steps_go ds c start n (after ds w (entering p)) ss k.1 (omega (arith, after_count ds w (entering p ∷ []), e)) g.sound (first_kept c start w (after ds w (entering p)) g.before f))
 steps_go ds c start n w (opening p s ∷ ss) k e h f =
-    let g : GoesOn start w (after ds w (opening p s)) = opening_goes ds start w p s (subst (λ m. IfSome (number_of p.chain) (λ q. q < m)) (sym e) k.0) f.enough h in
+    let g : GoesOn start w (after ds w (opening p s)) = opening_goes ds start w p s (subst (λ m. IfSome (innermost_number p.chain) (λ q. q < m)) (sym e) k.0) f.enough h in
     goes_then start w (after ds w (opening p s)) (after_all ds w (opening p s ∷ ss)) g.before
     (steps_go ds c start (suc n) (after ds w (opening p s)) ss k.1 (omega (arith, after_count ds w (opening p s ∷ []), e)) g.sound (first_kept c start w (after ds w (opening p s)) g.before f))
 steps_go ds c start n w (header_ending p s ∷ ss) k e h f =

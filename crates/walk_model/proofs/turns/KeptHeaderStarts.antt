@@ -5,22 +5,22 @@ use Rattle.semantic_tree.specs.Forest.{Forest, nothing, tree}
 use Rattle.semantic_tree.specs.declared.node.Node.{Node}
 use Rattle.semantic_kinds.specs.declared.role.Role.{Role}
 use Rattle.semantic_tree.specs.Views.{has_role}
-use Rattle.semantic_model.specs.Place.{Place, OpenScope, at, outside}
+use Rattle.semantic_model.specs.Place.{Place, OpenScope, scope_of_place, outside}
 use Rattle.semantic_model.specs.Inside.{opens, is_inside, any_inside, header_roles, is_in_header, is_parameter_decorator, scopes_in}
 use Rattle.semantic_model.specs.ScopeKind.{opened_scope}
 use Rattle.semantic_model.specs.Cursor.{on_entering}
 use Rattle.semantic_model.specs.Declaration.{Declaration}
 use Rattle.semantic_syntax.specs.Outcome.{Pending}
-use Rattle.semantic_model.specs.Step.{Step, entering, opening, header_ending, closing, leaving, steps_below, steps_of, opening_at, ending_after, opening_last, scope_at, next_at, child_place, chain_within}
+use Rattle.semantic_model.specs.Step.{Step, entering, opening, header_ending, closing, leaving, steps_below, steps_of, opening_at, ending_after, opening_last, scope_at, next_at, child_place, child_scopes}
 use Rattle.semantic_model.proofs.steps.Turn.{Turn, turn_at}
 use Rattle.semantic_model.proofs.steps.Opened.{opened_by_node, rest_opened, openings, openings-append, next_opened}
 use Rattle.semantic_model.proofs.steps.TurnCases.{opening_case, last_case}
 use Rattle.walk_model.specs.WalkState.{WalkState, nothing_made}
-use Rattle.walk_model.specs.Opens.{number_of}
+use Rattle.walk_model.specs.Opens.{innermost_number}
 use Rattle.walk_model.specs.Walks.{after, after_all}
 use Rattle.walk_model.proofs.places.Nested.{Descends, descends_more}
 use Rattle.walk_model.proofs.turns.ChainsShown.{chain_descends}
-use Rattle.walk_model.proofs.turns.ChildTurns.{StandsAt}
+use Rattle.walk_model.proofs.turns.ChildTurns.{WalkStandsAt}
 use Rattle.walk_model.proofs.turns.HeaderStarts.{WaitsBelow, IsSound, FirstBelow, first_kept, GoesOn, opening_goes, opening_first, StepsFrom, steps_go}
 pub use Rattle.walk_model.specs.Waits.{IsHeader, HoldsAt, start_at}
 
@@ -41,14 +41,14 @@ own_more : (c n m : ℕ) (p : Place) (own : Option OpenScope) → n ≤ m → Ow
 own_more c n m p None l h = tt
 own_more c n m p (Some s) l h = (h.0, (omega (arith, l, h.1.0), h.1.1))
 
-head_below : (n : ℕ) (chain : List OpenScope) → Descends n chain → IfSome (number_of chain) (λ q. q < n)
+head_below : (n : ℕ) (chain : List OpenScope) → Descends n chain → IfSome (innermost_number chain) (λ q. q < n)
 head_below n [] h = tt
 head_below n (s ∷ ss) h = h.0
 
-at_below : (n : ℕ) (p : Place) → 0 < n → Descends n p.chain → at p < n
+at_below : (n : ℕ) (p : Place) → 0 < n → Descends n p.chain → scope_of_place p < n
 at_below n p l h = go p.chain refl h
   where
-    go : (chain : List OpenScope) → p.chain ≡ chain → Descends n chain → at p < n
+    go : (chain : List OpenScope) → p.chain ≡ chain → Descends n chain → scope_of_place p < n
     go [] e k = rw e l
     go (s ∷ ss) e k = rw e k.0
 
@@ -59,7 +59,7 @@ outside_descends n (s ∷ ss) h = descends_more s.number n ss (omega (arith, h.0
 child_descends : (c n : ℕ) (p : Place) (own : Option OpenScope) (cursor : ℕ) (r : Role) (node : Node) → Descends n p.chain → OwnFrom c n p own → Descends n (child_place p own cursor r node).chain
 child_descends c n p own cursor r node h o = go (is_parameter_decorator p.node.kind r)
   where
-    within : (w : Option OpenScope) → OwnFrom c n p w → Descends n (chain_within p r w)
+    within : (w : Option OpenScope) → OwnFrom c n p w → Descends n (child_scopes p r w)
     within None k = h
     within (Some s) k = by (is_inside p.node.kind r)
       where
@@ -67,7 +67,7 @@ child_descends c n p own cursor r node h o = go (is_parameter_decorator p.node.k
         by true = (k.1.0, k.1.1)
         by false = h
 
-    go : (b : Bool) → Descends n (cond b (outside p.chain) (chain_within p r own))
+    go : (b : Bool) → Descends n (cond b (outside p.chain) (child_scopes p r own))
     go true = outside_descends n p.chain h
     go false = within own o
 
@@ -130,7 +130,7 @@ pub first_all : (n start : ℕ) (w : WalkState) → length w.tables.scopes ≡ n
 first_all n start w e l s = record { enough = l; below = below_take n start w.waiting (subst (λ m. AllByRecursion (WaitsBelow m) w.waiting) e s.waits) }
 
 -- over a node, each reference that waits before it waits on as it is
-pub node_goes : (ds : List Declaration) (start n : ℕ) (w : WalkState) (p : Place) (own : Option OpenScope) → 0 < n → StandsAt w p own n → start ≤ length w.waiting → IsSound w → GoesOn start w (after_all ds w (steps_of p n))
+pub node_goes : (ds : List Declaration) (start n : ℕ) (w : WalkState) (p : Place) (own : Option OpenScope) → 0 < n → WalkStandsAt w p own n → start ≤ length w.waiting → IsSound w → GoesOn start w (after_all ds w (steps_of p n))
 node_goes ds start n w p own z h l s =
     steps_go ds n start n w (steps_of p n) (from_node n n p z (omega arith) (subst (λ m. Descends m p.chain) h.count (chain_descends w.tables p.chain h.chain))) h.count s (first_all n start w h.count l s)
 
@@ -143,12 +143,12 @@ holds_on w v None start h g = record { sound = g.sound; header = g.before.enough
 holds_on w v (Some s) start h g = record { sound = g.sound; header = first_kept s.number start w v g.before h }
 
 -- before a child
-pub holds_opening : (ds : List Declaration) (w : WalkState) (p : Place) (r : Role) (own : Option OpenScope) (start n : ℕ) → StandsAt w p own n → HoldsAt w own start
+pub holds_opening : (ds : List Declaration) (w : WalkState) (p : Place) (r : Role) (own : Option OpenScope) (start n : ℕ) → WalkStandsAt w p own n → HoldsAt w own start
     → HoldsAt (after_all ds w (opening_at p r own n)) (scope_at p r own n) (start_at p r own start w)
 holds_opening ds w p r (Some s) start n k h = h
 holds_opening ds w p r None start n k h = by (is_inside p.node.kind r)
   where
-    head : IfSome (number_of p.chain) (λ q. q < length w.tables.scopes)
+    head : IfSome (innermost_number p.chain) (λ q. q < length w.tables.scopes)
     head = head_below (length w.tables.scopes) p.chain (chain_descends w.tables p.chain k.chain)
 
     opened : GoesOn (length w.waiting) w (after ds w (opening p (opened_scope p n)))
@@ -159,12 +159,12 @@ holds_opening ds w p r None start n k h = by (is_inside p.node.kind r)
     by false = h
 
 -- over a child
-pub holds_past : (ds : List Declaration) (w : WalkState) (child : Place) (own : Option OpenScope) (start n : ℕ) → 0 < n → StandsAt w child None n → HoldsAt w own start
+pub holds_past : (ds : List Declaration) (w : WalkState) (child : Place) (own : Option OpenScope) (start n : ℕ) → 0 < n → WalkStandsAt w child None n → HoldsAt w own start
     → HoldsAt (after_all ds w (steps_of child n)) own start
 holds_past ds w child own start n z k h = holds_on w (after_all ds w (steps_of child n)) own start h.header (node_goes ds start n w child None z k (header_enough own start w h.header) h.sound)
 
 -- behind a child
-pub holds_ending : (ds : List Declaration) (w : WalkState) (p : Place) (r : Role) (own : Option OpenScope) (rest : Forest) (start n : ℕ) → StandsAt w p own n → HoldsAt w own start
+pub holds_ending : (ds : List Declaration) (w : WalkState) (p : Place) (r : Role) (own : Option OpenScope) (rest : Forest) (start n : ℕ) → WalkStandsAt w p own n → HoldsAt w own start
     → HoldsAt (after_all ds w (ending_after p r own rest)) own start
 holds_ending ds w p r None rest start n k h = h
 holds_ending ds w p r (Some s) rest start n k h =
@@ -174,7 +174,7 @@ holds_ending ds w p r (Some s) rest start n k h =
     (steps_go ds s.number start n w (ending_after p r (Some s) rest) (from_ending s.number n p r (Some s) rest from) k.count h.sound h.header)
 
 -- on entering a node
-pub holds_entering : (ds : List Declaration) (w : WalkState) (p : Place) (start n : ℕ) → 0 < n → StandsAt w p None n → start ≤ length w.waiting → IsSound w → HoldsAt (after ds w (entering p)) None start
+pub holds_entering : (ds : List Declaration) (w : WalkState) (p : Place) (start n : ℕ) → 0 < n → WalkStandsAt w p None n → start ≤ length w.waiting → IsSound w → HoldsAt (after ds w (entering p)) None start
 holds_entering ds w p start n z k l s =
     let falls : Descends n p.chain = subst (λ m. Descends m p.chain) k.count (chain_descends w.tables p.chain k.chain) in
     holds_on w (after ds w (entering p)) None start l (steps_go ds n start n w (entering p ∷ []) (at_below n p z falls, tt) k.count s (first_all n start w k.count l s))

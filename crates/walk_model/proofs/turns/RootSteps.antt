@@ -14,10 +14,10 @@ use Rattle.semantic_model.specs.Event.{written_declarations}
 use Rattle.semantic_model.specs.Step.{entering, opening, steps_below, root_place, steps}
 use Rattle.walk_model.specs.WalkState.{WalkState, nothing_made}
 use Rattle.walk_model.specs.Settles.{settle_rest}
-use Rattle.walk_model.specs.Opens.{number_of, close_scope}
+use Rattle.walk_model.specs.Opens.{innermost_number, close_scope}
 use Rattle.walk_model.specs.Walks.{after, after_all, walked}
 use Rattle.walk_model.proofs.turns.ChainsShown.{ShowsChain, opening_chain, after_count}
-use Rattle.walk_model.proofs.turns.ChildTurns.{StandsAt, node_turn}
+use Rattle.walk_model.proofs.turns.ChildTurns.{WalkStandsAt, node_turn}
 use Rattle.walk_model.proofs.turns.HeaderStarts.{GoesOn, opening_goes}
 use Rattle.walk_model.proofs.turns.KeptHeaderStarts.{HoldsAt, nothing_sound}
 
@@ -46,7 +46,7 @@ pub root_below : (ds : List Declaration) (p : Place) (cursor : ℕ) (f : Forest)
     → after_all ds nothing_made (steps_below p None 0 cursor f) ≡ after_all ds (root_made ds p) (steps_below p (Some (root_scope p)) 1 cursor f)
 root_below ds p cursor nothing e c =
     let shown : ShowsChain (root_made ds p).tables (root_scope p ∷ p.chain) = opening_chain ds nothing_made p (root_scope p) refl (subst (ShowsChain nothing_made.tables) (sym c) tt) in
-    let lone : (scope_of (root_made ds p).tables 0).parent ≡ None = shown.0.parent ∙ ap number_of c in
+    let lone : (scope_of (root_made ds p).tables 0).parent ≡ None = shown.0.parent ∙ ap innermost_number c in
     last ∙ lone_closes (root_made ds p) 0 lone
   where
     last : after_all ds nothing_made (steps_below p None 0 cursor nothing) ≡ close_scope (root_made ds p) 0
@@ -62,7 +62,7 @@ root_steps ds program e =
     ∙ root_below ds (root_place program) (on_entering program.root.kind 0) program.root.children e refl
 
 -- where the walk stands then
-pub root_stands : (ds : List Declaration) (program : Tree) → StandsAt (root_made ds (root_place program)) (root_place program) (Some (root_scope (root_place program))) 1
+pub root_stands : (ds : List Declaration) (program : Tree) → WalkStandsAt (root_made ds (root_place program)) (root_place program) (Some (root_scope (root_place program))) 1
 root_stands ds program =
     let p : Place = root_place program in
     record { count = omega (arith, after_count ds nothing_made (opening p (root_scope p) ∷ [])); chain = tt; shown = opening_chain ds nothing_made p (root_scope p) refl tt }

@@ -18,7 +18,7 @@ use Rattle.semantic_tree.specs.declared.node.Node.{Node}
 use Rattle.semantic_model.specs.Place.{Place, OpenScope, outside}
 use Rattle.semantic_model.specs.Inside.{opens, is_parameter_decorator, scopes_in}
 use Rattle.semantic_model.specs.Cursor.{on_entering}
-use Rattle.semantic_model.specs.Step.{opening, leaving, steps_below, scope_at, next_at, child_place, chain_within, cursor_past, root_place, steps}
+use Rattle.semantic_model.specs.Step.{opening, leaving, steps_below, scope_at, next_at, child_place, child_scopes, cursor_past, root_place, steps}
 use Rattle.semantic_model.proofs.steps.Turn.{Turn, turn_at}
 use Rattle.semantic_model.proofs.steps.EachStep.{EachOfTurn, each_left, turn_of_each}
 use Rattle.semantic_model.proofs.form.Clauses.{kind_is}
@@ -64,7 +64,7 @@ stands_in_scope chain h e = h (rw e refl)
 pub decorated_within : (p : Place) (own : Option OpenScope) (cursor : ℕ) (r : Role) (node : Node) → is_parameter_decorator p.node.kind r ≡ true → HasVar (child_place p own cursor r node).chain → outside p.chain ≡ [] → ⊥
 decorated_within p own cursor r node d h = go (is_parameter_decorator p.node.kind r) d h
   where
-    go : (b : Bool) → b ≡ true → HasVar (cond b (outside p.chain) (chain_within p r own)) → outside p.chain ≡ [] → ⊥
+    go : (b : Bool) → b ≡ true → HasVar (cond b (outside p.chain) (child_scopes p r own)) → outside p.chain ≡ [] → ⊥
     go true e k = stands_in_scope (outside p.chain) k
     go false e k = absurd cc
 

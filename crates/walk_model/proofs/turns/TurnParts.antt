@@ -12,15 +12,15 @@ use Rattle.semantic_syntax.specs.Tables.{Tables}
 use Rattle.semantic_syntax.specs.Reading.{scope_of}
 use Rattle.semantic_syntax.specs.Told.{source_of}
 use Rattle.semantic_tree.specs.Views.{has_role}
-use Rattle.semantic_model.specs.Place.{Place, OpenScope, at, innermost, outside}
+use Rattle.semantic_model.specs.Place.{Place, OpenScope, scope_of_place, innermost, outside}
 use Rattle.semantic_model.specs.Inside.{opens, is_inside, any_inside, header_roles, is_in_header, is_parameter_decorator}
 use Rattle.semantic_model.specs.ScopeKind.{opened_scope, flags_of_kind, strict_if}
 use Rattle.semantic_model.specs.Declaration.{Declaration}
 use Rattle.semantic_syntax.specs.Outcome.{Outcome, header_outcome, staying}
-use Rattle.semantic_model.specs.Step.{opening, header_ending, closing, opening_at, ending_after, opening_last, child_place, chain_within}
+use Rattle.semantic_model.specs.Step.{opening, header_ending, closing, opening_at, ending_after, opening_last, child_place, child_scopes}
 use Rattle.walk_model.specs.WalkState.{WalkState}
 use Rattle.walk_model.specs.Settles.{settle, end_header}
-use Rattle.walk_model.specs.Opens.{number_of, open_scope, close_scope}
+use Rattle.walk_model.specs.Opens.{innermost_number, open_scope, close_scope}
 use Rattle.walk_model.specs.Walks.{after, after_all}
 use Rattle.walk_model.proofs.turns.ChainWays.{flags_at}
 use Rattle.walk_model.proofs.turns.ChainsShown.{ShowsChain}
@@ -88,23 +88,23 @@ last_is ds w p n = by (opens p.node.kind)
     by false = refl
 
 abbrev pub within_at : Place → Role → Option OpenScope → ℕ
-within_at p r None = at p
-within_at p r (Some s) = cond (is_inside p.node.kind r) s.number (at p)
+within_at p r None = scope_of_place p
+within_at p r (Some s) = cond (is_inside p.node.kind r) s.number (scope_of_place p)
 
 -- where a child stands: a parameter's decorator outside of the parameter's scope, others inside of the own scope or around it
 pub child_at : (p : Place) (own : Option OpenScope) (cursor : ℕ) (r : Role) (node : Node)
-    → at (child_place p own cursor r node) ≡ cond (is_parameter_decorator p.node.kind r) (innermost (outside p.chain)).number (within_at p r own)
+    → scope_of_place (child_place p own cursor r node) ≡ cond (is_parameter_decorator p.node.kind r) (innermost (outside p.chain)).number (within_at p r own)
 child_at p own cursor r node = go (is_parameter_decorator p.node.kind r)
   where
-    within : (o : Option OpenScope) → (innermost (chain_within p r o)).number ≡ within_at p r o
+    within : (o : Option OpenScope) → (innermost (child_scopes p r o)).number ≡ within_at p r o
     within None = refl
     within (Some s) = by (is_inside p.node.kind r)
       where
-        by : (b : Bool) → (innermost (cond b (record s { in_header = is_in_header p.node.kind r } ∷ p.chain) p.chain)).number ≡ cond b s.number (at p)
+        by : (b : Bool) → (innermost (cond b (record s { in_header = is_in_header p.node.kind r } ∷ p.chain) p.chain)).number ≡ cond b s.number (scope_of_place p)
         by true = refl
         by false = refl
 
-    go : (b : Bool) → (innermost (cond b (outside p.chain) (chain_within p r own))).number ≡ cond b (innermost (outside p.chain)).number (within_at p r own)
+    go : (b : Bool) → (innermost (cond b (outside p.chain) (child_scopes p r own))).number ≡ cond b (innermost (outside p.chain)).number (within_at p r own)
     go true = refl
     go false = within own
 
@@ -115,20 +115,20 @@ around_at t (s ∷ []) h f = absurd (f refl)
 around_at t (s ∷ r ∷ rs) h f = rw h.0.parent refl
 
 -- a scope opens within the scope where its place stands
-pub opens_within : (chain : List OpenScope) → (chain ≡ [] → ⊥) → number_of chain ≡ Some (innermost chain).number
+pub opens_within : (chain : List OpenScope) → (chain ≡ [] → ⊥) → innermost_number chain ≡ Some (innermost chain).number
 opens_within [] f = absurd (f refl)
 opens_within (s ∷ ss) f = refl
 
 -- the innermost scope exists
-pub at_within : (t : Tables) (p : Place) → 0 < length t.scopes → ShowsChain t p.chain → at p < length t.scopes
+pub at_within : (t : Tables) (p : Place) → 0 < length t.scopes → ShowsChain t p.chain → scope_of_place p < length t.scopes
 at_within t p z h = go p.chain refl h
   where
-    go : (chain : List OpenScope) → p.chain ≡ chain → ShowsChain t chain → at p < length t.scopes
+    go : (chain : List OpenScope) → p.chain ≡ chain → ShowsChain t chain → scope_of_place p < length t.scopes
     go [] e k = rw e z
     go (s ∷ ss) e k = rw e k.0.within
 
 -- a scope that opens is strict where the row of the scope around it is
-pub opened_flags : (t : Tables) (p : Place) (n : ℕ) → ShowsChain t p.chain → (p.chain ≡ [] → ⊥) → (opened_scope p n).flags ≡ union (flags_of_kind p.node.kind p) (strict_if (meets (scope_of t (at p)).flags.bits flag.StrictMode.bits))
+pub opened_flags : (t : Tables) (p : Place) (n : ℕ) → ShowsChain t p.chain → (p.chain ≡ [] → ⊥) → (opened_scope p n).flags ≡ union (flags_of_kind p.node.kind p) (strict_if (meets (scope_of t (scope_of_place p)).flags.bits flag.StrictMode.bits))
 opened_flags t p n h f = ap (λ b. union (flags_of_kind p.node.kind p) (strict_if b)) (sym (flags_at t flag.StrictMode.bits p.chain refl h f))
 
 -- so a scope opens in the innermost one, by its row
@@ -137,9 +137,9 @@ pub opened_as : (w : WalkState) (p : Place) (n : ℕ) → n ≡ length w.tables.
     (record w {
       tables = record w.tables {
         scopes = w.tables.scopes ++ record {
-          parent = Some (at p);
+          parent = Some (scope_of_place p);
           node = p.node.node_id;
-          flags = record { bits = union (flags_of_kind p.node.kind p) (strict_if (meets (scope_of w.tables (at p)).flags.bits flag.StrictMode.bits)) };
+          flags = record { bits = union (flags_of_kind p.node.kind p) (strict_if (meets (scope_of w.tables (scope_of_place p)).flags.bits flag.StrictMode.bits)) };
         } ∷ [];
         bindings = w.tables.bindings ++ [] ∷ [];
       };

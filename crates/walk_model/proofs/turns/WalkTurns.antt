@@ -7,7 +7,7 @@ use Rattle.semantic_tree.specs.Children.{forest_of}
 use Rattle.semantic_tree.specs.Tree.{Tree}
 use Rattle.semantic_tree.specs.Faults.{first_fault}
 use Rattle.semantic_tree.specs.declared.node.Node.{Node}
-use Rattle.semantic_model.specs.Place.{Place, OpenScope, at, innermost, outside}
+use Rattle.semantic_model.specs.Place.{Place, OpenScope, scope_of_place, innermost, outside}
 use Rattle.semantic_model.specs.Inside.{opens, is_inside, is_parameter_decorator, scopes_in}
 use Rattle.semantic_model.specs.ScopeKind.{opened_scope}
 use Rattle.semantic_model.specs.Cursor.{on_entering}
@@ -16,7 +16,7 @@ use Rattle.semantic_model.specs.Step.{entering, steps_below, steps_of, opening_a
 use Rattle.walk_model.specs.WalkState.{WalkState}
 use Rattle.walk_model.specs.Walks.{after, after_all}
 use Rattle.walk_model.proofs.places.Routes.{HasVar}
-use Rattle.walk_model.proofs.turns.ChildTurns.{StandsAt, first_turn, stands_entering, stands_opening, stands_child, stands_past, stands_ending}
+use Rattle.walk_model.proofs.turns.ChildTurns.{WalkStandsAt, first_turn, stands_entering, stands_opening, stands_child, stands_past, stands_ending}
 use Rattle.walk_model.proofs.turns.KeptHeaderStarts.{HoldsAt, start_at, holds_entering, holds_opening, holds_past, holds_ending}
 use Rattle.walk_model.proofs.turns.TurnParts.{within_at, child_at, around_at}
 use Rattle.walk_model.proofs.turns.RootSteps.{root_scope, root_made, root_stands, root_holds}
@@ -88,7 +88,7 @@ module _ (ds : List Declaration) (w : WalkState) (p : Place) (own : Option OpenS
       by true = tt
       by false = h
 
-  pub opened_stands : IsBetween w p own n cursor start (forest_of (child ∷ rest)) → StandsAt opened_here p scope_here next_here
+  pub opened_stands : IsBetween w p own n cursor start (forest_of (child ∷ rest)) → WalkStandsAt opened_here p scope_here next_here
   opened_stands h = stands_opening ds w p child.0 own n h.stands
 
   pub opened_holds : IsBetween w p own n cursor start (forest_of (child ∷ rest)) → HoldsAt opened_here scope_here start_here
@@ -102,7 +102,7 @@ module _ (ds : List Declaration) (w : WalkState) (p : Place) (own : Option OpenS
       record { some = next_some h.some; stands = stands_child opened_here p scope_here next_here cursor child.0 child.1 (opened_stands h); sound = holds.sound; seat = first.here }
 
   -- behind its steps
-  pub past_stands : IsBetween w p own n cursor start (forest_of (child ∷ rest)) → StandsAt past_here p scope_here next_past
+  pub past_stands : IsBetween w p own n cursor start (forest_of (child ∷ rest)) → WalkStandsAt past_here p scope_here next_past
   past_stands h = stands_past ds opened_here p place_here scope_here next_here (opened_stands h)
 
   pub past_holds : IsBetween w p own n cursor start (forest_of (child ∷ rest)) → HoldsAt past_here scope_here start_here
@@ -123,13 +123,13 @@ module _ (ds : List Declaration) (w : WalkState) (p : Place) (own : Option OpenS
 
   -- where the child stands, by the rows
   pub child_stands_at : IsBetween w p own n cursor start (forest_of (child ∷ rest))
-      → at place_here ≡ cond (is_parameter_decorator p.node.kind child.0) (unwrap_or (scope_of opened_here.tables (at p)).parent (at p)) (within_at p child.0 scope_here)
+      → scope_of_place place_here ≡ cond (is_parameter_decorator p.node.kind child.0) (unwrap_or (scope_of opened_here.tables (scope_of_place p)).parent (scope_of_place p)) (within_at p child.0 scope_here)
   child_stands_at h =
       let ready : IsReady opened_here place_here next_here = child_ready h in
-      let stands : StandsAt opened_here p scope_here next_here = opened_stands h in
+      let stands : WalkStandsAt opened_here p scope_here next_here = opened_stands h in
       child_at p scope_here cursor child.0 child.1 ∙ by (is_parameter_decorator p.node.kind child.0) refl stands ready.seat.var
     where
-      by : (b : Bool) → is_parameter_decorator p.node.kind child.0 ≡ b → StandsAt opened_here p scope_here next_here → HasVar place_here.chain
-          → cond b (innermost (outside p.chain)).number (within_at p child.0 scope_here) ≡ cond b (unwrap_or (scope_of opened_here.tables (at p)).parent (at p)) (within_at p child.0 scope_here)
+      by : (b : Bool) → is_parameter_decorator p.node.kind child.0 ≡ b → WalkStandsAt opened_here p scope_here next_here → HasVar place_here.chain
+          → cond b (innermost (outside p.chain)).number (within_at p child.0 scope_here) ≡ cond b (unwrap_or (scope_of opened_here.tables (scope_of_place p)).parent (scope_of_place p)) (within_at p child.0 scope_here)
       by true e s v = sym (around_at opened_here.tables p.chain s.chain (decorated_within p scope_here cursor child.0 child.1 e v))
       by false e s v = refl

@@ -10,7 +10,7 @@ use Rattle.semantic_model.specs.Binder.{is_block_function}
 use Rattle.semantic_model.specs.Step.{Step, entering, opening, header_ending, closing, leaving, steps}
 use Rattle.semantic_model.specs.Event.{written_declarations}
 use Rattle.walk_model.proofs.written.WrittenStands.{written_stands}
-use Rattle.walk_model.specs.WrittenNames.{Written, is_written, names_written, is_sloppy, any_standing}
+use Rattle.walk_model.specs.WrittenNames.{WrittenName, is_written, names_written, is_sloppy, any_standing}
 use Rattle.walk_model.specs.NamedScopes.{IsNamedIn, AreNamedIn, AllNamed}
 use Rattle.walk_model.proofs.written.ScopesAround.{IsPlaceHeld, AllHeld}
 use Rattle.walk_model.proofs.once.NodeIds.{openers_distinct}
@@ -22,10 +22,10 @@ abbrev pub AreWritten : Tree → Type 0
 AreWritten program = (opener : ℕ) (name : Name) → is_written (names_written program) opener name ≡ any_standing opener name (written_declarations (steps program))
 
 -- they are collected in sloppy JavaScript alone
-abbrev pub AreCollected : Tree → List Written → Type 0
+abbrev pub AreCollected : Tree → List WrittenName → Type 0
 AreCollected program ws = (opener : ℕ) (name : Name) → is_written ws opener name ≡ (is_sloppy program.source_type && is_written (names_written program) opener name)
 
-module _ (program : Tree) (ws : List Written) (whole : first_fault program ≡ None) (ids : IsNumbered program.root) (written : AreWritten program) (collected : AreCollected program ws) where
+module _ (program : Tree) (ws : List WrittenName) (whole : first_fault program ≡ None) (ids : IsNumbered program.root) (written : AreWritten program) (collected : AreCollected program ws) where
   abbrev ds : List Declaration
   ds = written_declarations (steps program)
 
@@ -59,9 +59,9 @@ module _ (program : Tree) (ws : List Written) (whole : first_fault program ≡ N
   all_named (closing p s ∷ ss) h k = (tt, all_named ss h.1 k.1)
   all_named (leaving p ∷ ss) h k = (tt, all_named ss h.1 k.1)
 
-pub names_stand_by : (program : Tree) → first_fault program ≡ None → IsNumbered program.root → AreWritten program → (ws : List Written) → AreCollected program ws → AllNamed (written_declarations (steps program)) ws (steps program)
+pub names_stand_by : (program : Tree) → first_fault program ≡ None → IsNumbered program.root → AreWritten program → (ws : List WrittenName) → AreCollected program ws → AllNamed (written_declarations (steps program)) ws (steps program)
 names_stand_by program whole ids written ws collected = all_named program ws whole ids written collected (steps program) (all_listed program) (all_strict program whole)
 
 -- the names that were collected bar what the definitions bar
-pub names_stand : (program : Tree) → first_fault program ≡ None → IsNumbered program.root → (ws : List Written) → AreCollected program ws → AllNamed (written_declarations (steps program)) ws (steps program)
+pub names_stand : (program : Tree) → first_fault program ≡ None → IsNumbered program.root → (ws : List WrittenName) → AreCollected program ws → AllNamed (written_declarations (steps program)) ws (steps program)
 names_stand program whole ids ws collected = names_stand_by program whole ids (written_stands program whole) ws collected

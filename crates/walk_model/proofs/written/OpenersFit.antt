@@ -10,7 +10,7 @@ use Rattle.semantic_tree.specs.declared.node.Node.{Node}
 use Rattle.semantic_model.specs.Place.{Place, OpenScope, innermost, outside}
 use Rattle.semantic_model.specs.Inside.{is_inside, is_in_header, is_parameter_decorator}
 use Rattle.semantic_model.specs.ScopeKind.{opened_scope}
-use Rattle.semantic_model.specs.Step.{scope_at, child_place, chain_within}
+use Rattle.semantic_model.specs.Step.{scope_at, child_place, child_scopes}
 use Rattle.semantic_model.proofs.form.Clauses.{kind_is}
 use Rattle.semantic_model.proofs.form.ParameterShape.{holds_inside, is_parameter, stands_under}
 use Rattle.walk_model.specs.WrittenNames.{Openers, openers_at}
@@ -48,7 +48,7 @@ decorated_so _ r h = absurd cc
 
 -- a child inside stands in the own scope, within the scopes of its parent
 within_own : (p : Place) (r : Role) (own : Option OpenScope) → IsOwn p own → (is_inside p.node.kind r ≡ true → own ≡ None → ⊥) → is_inside p.node.kind r ≡ true
-    → ((innermost (chain_within p r own)).opener ≡ p.node.node_id) × (outside (chain_within p r own) ≡ p.chain)
+    → ((innermost (child_scopes p r own)).opener ≡ p.node.node_id) × (outside (child_scopes p r own) ≡ p.chain)
 within_own p r None h opened i = absurd (opened i refl)
 within_own p r (Some s) h opened i = by (is_inside p.node.kind r) i
   where
@@ -57,7 +57,7 @@ within_own p r (Some s) h opened i = by (is_inside p.node.kind r) i
     by false e = absurd cc
 
 -- a child that isn't inside stands where its parent does
-without_own : (p : Place) (r : Role) (own : Option OpenScope) → is_inside p.node.kind r ≡ false → chain_within p r own ≡ p.chain
+without_own : (p : Place) (r : Role) (own : Option OpenScope) → is_inside p.node.kind r ≡ false → child_scopes p r own ≡ p.chain
 without_own p r None i = refl
 without_own p r (Some s) i = ap (λ b. cond b (record s { in_header = is_in_header p.node.kind r } ∷ p.chain) p.chain) i
 
@@ -70,7 +70,7 @@ child_within : (p : Place) (own : Option OpenScope) (cursor : ℕ) (r : Role) (n
 child_within p own cursor r node o own_is opened f = by (is_inside p.node.kind r) (is_parameter_decorator p.node.kind r) refl refl
   where
     by : (i d : Bool) → is_inside p.node.kind r ≡ i → is_parameter_decorator p.node.kind r ≡ d
-        → (chosen i d p.node.node_id o).innermost ≡ (innermost (cond d (outside p.chain) (chain_within p r own))).opener
+        → (chosen i d p.node.node_id o).innermost ≡ (innermost (cond d (outside p.chain) (child_scopes p r own))).opener
     by true true e g = let w : true ≡ false = sym e ∙ decorated_outside p.node.kind r g in absurd cc
     by true false e g = sym (within_own p r own own_is opened e).0
     by false true e g = f.beyond (decorated_so p.node.kind r g)
@@ -84,7 +84,7 @@ list_beyond p own cursor r node o own_is opened f h =
     let two : (is_inside p.node.kind r && not (is_parameter_decorator p.node.kind r)) ≡ true = and_first (is_inside p.node.kind r && not (is_parameter_decorator p.node.kind r)) (not (same_kind p.node.kind kind.BlockStatement)) three in
     by (is_inside p.node.kind r) (is_parameter_decorator p.node.kind r) refl (and_first (is_inside p.node.kind r) (not (is_parameter_decorator p.node.kind r)) two) (and_second (is_inside p.node.kind r) (not (is_parameter_decorator p.node.kind r)) two)
   where
-    by : (i d : Bool) → is_inside p.node.kind r ≡ i → i ≡ true → not d ≡ true → (chosen i d p.node.node_id o).around ≡ (innermost (outside (cond d (outside p.chain) (chain_within p r own)))).opener
+    by : (i d : Bool) → is_inside p.node.kind r ≡ i → i ≡ true → not d ≡ true → (chosen i d p.node.node_id o).around ≡ (innermost (outside (cond d (outside p.chain) (child_scopes p r own)))).opener
     by true false e g k = f.within ∙ ap (λ c. (innermost c).opener) (sym (within_own p r own own_is opened e).1)
     by true true e g k = absurd cc
     by false d e g k = absurd cc
@@ -97,7 +97,7 @@ parameter_beyond p own cursor r node o h f = by (is_inside p.node.kind r) (is_pa
     k : p.node.kind ≡ kind.FormalParameters
     k = kind_is p.node.kind kind.FormalParameters h
 
-    by : (i d : Bool) → is_inside p.node.kind r ≡ i → i ≡ false → d ≡ false → (chosen i d p.node.node_id o).around ≡ (innermost (outside (cond d (outside p.chain) (chain_within p r own)))).opener
+    by : (i d : Bool) → is_inside p.node.kind r ≡ i → i ≡ false → d ≡ false → (chosen i d p.node.node_id o).around ≡ (innermost (outside (cond d (outside p.chain) (child_scopes p r own)))).opener
     by true d e g m = absurd cc
     by false true e g m = absurd cc
     by false false e g m = f.beyond (ap (λ b. b || is_parameter p.node.kind) h) ∙ ap (λ c. (innermost (outside c)).opener) (sym (without_own p r own e))

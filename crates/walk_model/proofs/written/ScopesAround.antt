@@ -10,7 +10,7 @@ use Rattle.semantic_model.specs.Inside.{is_inside, is_in_header, is_parameter_de
 use Rattle.semantic_model.specs.ScopeKind.{opened_scope}
 use Rattle.semantic_model.specs.Cursor.{on_entering}
 use Rattle.semantic_tree.specs.Tree.{Tree}
-use Rattle.semantic_model.specs.Step.{Step, entering, opening, header_ending, closing, leaving, steps_below, steps, opening_at, ending_after, opening_last, scope_at, child_place, chain_within, root_place}
+use Rattle.semantic_model.specs.Step.{Step, entering, opening, header_ending, closing, leaving, steps_below, steps, opening_at, ending_after, opening_last, scope_at, child_place, child_scopes, root_place}
 use Rattle.semantic_model.proofs.steps.Turn.{Turn, turn_at}
 use Rattle.semantic_model.proofs.steps.EachStep.{EachStep, EachOfTurn, each_left, each_of_node, each_of_turn, turn_of_each}
 use Rattle.semantic_model.proofs.steps.TurnCases.{opening_case, ending_case, last_case}
@@ -73,7 +73,7 @@ module _ (P : OpenScope → Type 0) (t : SourceType) where
   child_held : PassesHeaders → (p : Place) (own : Option OpenScope) (cursor : ℕ) (r : Role) (node : Node) → IsPlaceHeld p → OwnHeld own → IsPlaceHeld (child_place p own cursor r node)
   child_held pass p own cursor r node h o = (h.0, go (is_parameter_decorator p.node.kind r))
     where
-      within : (c : Option OpenScope) → OwnHeld c → AllByRecursion P (chain_within p r c)
+      within : (c : Option OpenScope) → OwnHeld c → AllByRecursion P (child_scopes p r c)
       within None k = h.1
       within (Some s) k = by (is_inside p.node.kind r)
         where
@@ -81,7 +81,7 @@ module _ (P : OpenScope → Type 0) (t : SourceType) where
           by true = (pass s (is_in_header p.node.kind r) k, h.1)
           by false = h.1
 
-      go : (b : Bool) → AllByRecursion P (cond b (outside p.chain) (chain_within p r own))
+      go : (b : Bool) → AllByRecursion P (cond b (outside p.chain) (child_scopes p r own))
       go true = outside_held p.chain h.1
       go false = within own o
 

@@ -14,24 +14,24 @@ use Rattle.semantic_tree.specs.Views.{is, child_of, children_of, holds}
 use Rattle.semantic_model.specs.Names.{bound_names}
 use Rattle.semantic_model.specs.Place.{Place, OpenScope, innermost}
 use Rattle.semantic_model.specs.Binder.{ids, is_statement, declared_on_entering, declared_on_opening}
-use Rattle.walk_model.specs.WrittenNames.{Written, Openers, is_known_inside, counts_as, names_in, written_by}
+use Rattle.walk_model.specs.WrittenNames.{WrittenName, Openers, is_known_inside, declares_lexically, names_in, written_by}
 use Rattle.walk_model.proofs.once.NamesInRole.{AtMostOne, bound_is, one_pattern}
 use Rattle.walk_model.proofs.written.WrittenRows.{parent_of, written_outside, written_inside, is_in, any_in, entering_written, opening_written}
 
 -- by its kind, and by whether its name is known in its own scope alone
 written_is : (node : Node) (parent : Option Node) (o : Openers) (k : AstType) (inside : Bool) → node.kind ≡ k → is_known_inside node ≡ inside
-    → written_by node parent o ≡ cond (counts_as k node parent) (names_in (cond inside node.node_id o.innermost) (bound_names node)) []
-written_is node parent o k inside e f = λ i. cond (counts_as (e i) node parent) (names_in (cond (f i) node.node_id o.innermost) (bound_names node)) []
+    → written_by node parent o ≡ cond (declares_lexically k node parent) (names_in (cond inside node.node_id o.innermost) (bound_names node)) []
+written_is node parent o k inside e f = λ i. cond (declares_lexically (e i) node parent) (names_in (cond (f i) node.node_id o.innermost) (bound_names node)) []
 
 known_is : (node : Node) (k : AstType) (b : Bool) → node.kind ≡ k → is_statement node ≡ b → is_known_inside node ≡ (holds_kind (kind.Function ∷ kind.Class ∷ []) k && not b)
 known_is node k b e f = λ i. holds_kind (kind.Function ∷ kind.Class ∷ []) (e i) && not (f i)
 
 module _ (x : ℕ) (name : Name) where
-  abbrev on : List Written → Bool
+  abbrev on : List WrittenName → Bool
   on ws = is_in x name ws
 
   -- a function or a class
-  statement_written : (k : AstType) (p : Place) (o : Openers) → p.node.kind ≡ k → o.innermost ≡ (innermost p.chain).opener → holds_kind (kind.Function ∷ kind.Class ∷ []) k ≡ true → counts_as k p.node (parent_of p.path) ≡ true → bound_names p.node ≡ ids p.node
+  statement_written : (k : AstType) (p : Place) (o : Openers) → p.node.kind ≡ k → o.innermost ≡ (innermost p.chain).opener → holds_kind (kind.Function ∷ kind.Class ∷ []) k ≡ true → declares_lexically k p.node (parent_of p.path) ≡ true → bound_names p.node ≡ ids p.node
       → (on (cond (is_statement p.node) (names_in (innermost p.chain).opener (ids p.node)) []) || on (cond (is_statement p.node) [] (names_in p.node.node_id (ids p.node)))) ≡ on (written_by p.node (parent_of p.path) o)
   statement_written k p o e s h c n = by (is_statement p.node) refl
     where
@@ -47,11 +47,11 @@ module _ (x : ℕ) (name : Name) where
 
   -- what else is written stands in the innermost scope
   plain_written : (k : AstType) (p : Place) (o : Openers) → p.node.kind ≡ k → o.innermost ≡ (innermost p.chain).opener → holds_kind (kind.Function ∷ kind.Class ∷ []) k ≡ false
-      → on (written_by p.node (parent_of p.path) o) ≡ on (cond (counts_as k p.node (parent_of p.path)) (names_in (innermost p.chain).opener (bound_names p.node)) [])
+      → on (written_by p.node (parent_of p.path) o) ≡ on (cond (declares_lexically k p.node (parent_of p.path)) (names_in (innermost p.chain).opener (bound_names p.node)) [])
   plain_written k p o e s h =
       ap on (
       written_is p.node (parent_of p.path) o k false e (known_is p.node k (is_statement p.node) e refl ∙ ap (λ t. t && not (is_statement p.node)) h)
-      ∙ ap (λ n. cond (counts_as k p.node (parent_of p.path)) (names_in n (bound_names p.node)) []) s
+      ∙ ap (λ n. cond (declares_lexically k p.node (parent_of p.path)) (names_in n (bound_names p.node)) []) s
       )
 
   parted : (k : AstType) (p : Place) (o : Openers) → p.node.kind ≡ k → o.innermost ≡ (innermost p.chain).opener

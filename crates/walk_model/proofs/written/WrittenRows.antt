@@ -16,9 +16,9 @@ use Rattle.semantic_model.specs.Names.{bound_names, names_at}
 use Rattle.semantic_model.specs.Namespace.{InstanceState, non_instantiated, const_enum_only, instantiated, instance_state, nodes_around}
 use Rattle.semantic_model.specs.Place.{Place, OpenScope, innermost, parent_holds}
 use Rattle.semantic_model.specs.Declaration.{plain, caught, Declaration, Route, here, passed_before, first_with, route_from, outward_past, scope_it_stands_in}
-use Rattle.semantic_model.specs.Binder.{Row, declare, declare_here, is_var, is_block_function, lexical_flags, variable_row, variables_under, function_flags, function_row, own_function_row, class_row, is_pure_declarator, ids, ambient_if, marked_ambient, is_special, is_statement, parameter_excluded, parameters_under, catch_names, import_flags, enums, member_named, namespace_row, type_parameter_route, type_parameter_row, declared_by, declared_inside}
+use Rattle.semantic_model.specs.Binder.{BinderRow, declaration_at, declare_here, is_var, is_block_function, lexical_flags, variable_row, variables_under, function_flags, function_row, own_function_row, class_row, is_pure_declarator, ids, ambient_if, marked_ambient, is_special, is_statement, parameter_excluded, parameters_under, catch_names, import_flags, enums, member_named, namespace_row, type_parameter_route, type_parameter_row, declared_by, declared_inside}
 use Rattle.semantic_model.specs.Event.{counts_past}
-use Rattle.walk_model.specs.WrittenNames.{Written, is_written, is_lexical, names_in, any_standing}
+use Rattle.walk_model.specs.WrittenNames.{WrittenName, is_written, is_lexical, names_in, any_standing}
 use Rattle.walk_model.proofs.once.NamesInRole.{AtMostOne}
 
 -- whether a symbol of these flags is one past which a block function doesn't move
@@ -34,7 +34,7 @@ parent_of [] = None
 parent_of (node ∷ path) = Some node
 
 -- what a node writes on entering it, in the innermost scope
-abbrev pub written_outside : AstType → Place → List Written
+abbrev pub written_outside : AstType → Place → List WrittenName
 written_outside kind.VariableDeclarator p = cond (is_lexical (parent_of p.path)) (names_in (innermost p.chain).opener (bound_names p.node)) []
 written_outside kind.Function p = cond (is_statement p.node) (names_in (innermost p.chain).opener (ids p.node)) []
 written_outside kind.Class p = cond (is_statement p.node) (names_in (innermost p.chain).opener (ids p.node)) []
@@ -42,7 +42,7 @@ written_outside kind.CatchParameter p = cond (holds (λ q. not (is kind.BindingI
 written_outside _ p = []
 
 -- what it writes in the scope that it opens
-abbrev pub written_inside : AstType → Node → List Written
+abbrev pub written_inside : AstType → Node → List WrittenName
 written_inside kind.Function node = cond (is_statement node) [] (names_in node.node_id (ids node))
 written_inside kind.Class node = cond (is_statement node) [] (names_in node.node_id (ids node))
 written_inside _ node = []
@@ -76,7 +76,7 @@ class_counts node = by (has mark.Declare node)
     by true = refl
     by false = refl
 
--- such a flag counts with or without `declare`
+-- such a flag counts with or without `declaration_at`
 abbrev Idles : ℕ → Type 0
 Idles flags = (node : Node) → count (union flags (marked_ambient node)) ≡ false
 
@@ -111,7 +111,7 @@ function_stands p = by (is_block_function p) refl
     by false e = rw e (function_counts p.node, refl)
 
 module _ (x : ℕ) (name : Name) where
-  abbrev pub is_in : List Written → Bool
+  abbrev pub is_in : List WrittenName → Bool
   is_in ws = is_written ws x name
 
   abbrev pub any_in : List Declaration → Bool
@@ -124,14 +124,14 @@ module _ (x : ℕ) (name : Name) where
       ap (λ b. first || b) (any_append ds es) ∙ (sym (or_assoc first (any_in ds) (any_in es)))
 
   -- a row whose flags count
-  row_written : (node : Node) (row : Row) (is_pure : Bool) (s : OpenScope) → count row.flags ≡ true → first_on row.route ≡ s → (names : List Node) → any_in (map (declare node row is_pure) names) ≡ is_in (names_in s.opener names)
+  row_written : (node : Node) (row : BinderRow) (is_pure : Bool) (s : OpenScope) → count row.flags ≡ true → first_on row.route ≡ s → (names : List Node) → any_in (map (declaration_at node row is_pure) names) ≡ is_in (names_in s.opener names)
   row_written node row is_pure s c f [] = refl
   row_written node row is_pure s c f (n ∷ ns) =
       let here : ((first_on row.route).opener == x) ≡ (x == s.opener) = ap (λ t. t.opener == x) f ∙ same_turned s.opener x in
       λ i. (c i && here i && bytes_eq n.text name) || row_written node row is_pure s c f ns i
 
   -- a row whose flags don't count
-  row_idle : (node : Node) (row : Row) (is_pure : Bool) → count row.flags ≡ false → (names : List Node) → any_in (map (declare node row is_pure) names) ≡ false
+  row_idle : (node : Node) (row : BinderRow) (is_pure : Bool) → count row.flags ≡ false → (names : List Node) → any_in (map (declaration_at node row is_pure) names) ≡ false
   row_idle node row is_pure c [] = refl
   row_idle node row is_pure c (n ∷ ns) = λ i. (c i && ((first_on row.route).opener == x) && bytes_eq n.text name) || row_idle node row is_pure c ns i
 
@@ -143,7 +143,7 @@ module _ (x : ℕ) (name : Name) where
   variables_written (declaration ∷ path) p = by (is_with_text kind.VariableDeclaration (codes "var") declaration) refl
     where
       by : (b : Bool) → is_with_text kind.VariableDeclaration (codes "var") declaration ≡ b
-          → any_in (map (declare p.node (variable_row declaration p.chain) (is_pure_declarator p.node)) (bound_names p.node)) ≡ is_in (cond (not b) (names_in (innermost p.chain).opener (bound_names p.node)) [])
+          → any_in (map (declaration_at p.node (variable_row declaration p.chain) (is_pure_declarator p.node)) (bound_names p.node)) ≡ is_in (cond (not b) (names_in (innermost p.chain).opener (bound_names p.node)) [])
       by true e = row_idle p.node (variable_row declaration p.chain) (is_pure_declarator p.node) (rw e (idles symbol.FunctionScopedVariable.bits refl refl declaration)) (bound_names p.node)
       by false e = row_written p.node (variable_row declaration p.chain) (is_pure_declarator p.node) (innermost p.chain) (rw e (lexical_counts declaration)) (rw e refl) (bound_names p.node)
 
@@ -160,7 +160,7 @@ module _ (x : ℕ) (name : Name) where
       ∙ sym (ap (λ ns. is_in (cond (not (is kind.BindingIdentifier q)) (names_in (innermost p.chain).opener ns) [])) (append-nil (bound_names q)))
     where
       by : (b : Bool) (names : List Node)
-          → any_in (if b then declare p.node (record { flags = union symbol.FunctionScopedVariable.bits symbol.CatchVariable.bits; excluded = 0; how = caught; route = here p.chain }) false q ∷ [] else declare_here p (union symbol.BlockScopedVariable.bits symbol.CatchVariable.bits) symbol.BlockScopedVariableExcludes.bits names)
+          → any_in (if b then declaration_at p.node (record { flags = union symbol.FunctionScopedVariable.bits symbol.CatchVariable.bits; excluded = 0; how = caught; route = here p.chain }) false q ∷ [] else declare_here p (union symbol.BlockScopedVariable.bits symbol.CatchVariable.bits) symbol.BlockScopedVariableExcludes.bits names)
           ≡ is_in (cond (not b) (names_in (innermost p.chain).opener names) [])
       by true names = refl
       by false names = row_written p.node (record { flags = union symbol.BlockScopedVariable.bits symbol.CatchVariable.bits; excluded = symbol.BlockScopedVariableExcludes.bits; how = plain; route = here p.chain }) false (innermost p.chain) refl refl names
@@ -185,11 +185,11 @@ module _ (x : ℕ) (name : Name) where
       by false = refl
 
   -- what stands outside, if it does
-  outside_if : (b : Bool) (ds : List Declaration) (ws : List Written) → any_in ds ≡ is_in ws → any_in (cond b ds []) ≡ is_in (cond b ws [])
+  outside_if : (b : Bool) (ds : List Declaration) (ws : List WrittenName) → any_in ds ≡ is_in ws → any_in (cond b ds []) ≡ is_in (cond b ws [])
   outside_if true ds ws h = h
   outside_if false ds ws h = refl
 
-  inside_if : (b : Bool) (ds : List Declaration) (ws : List Written) → any_in ds ≡ is_in ws → any_in (cond b [] ds) ≡ is_in (cond b [] ws)
+  inside_if : (b : Bool) (ds : List Declaration) (ws : List WrittenName) → any_in ds ≡ is_in ws → any_in (cond b [] ds) ≡ is_in (cond b [] ws)
   inside_if true ds ws h = refl
   inside_if false ds ws h = h
 
@@ -197,10 +197,10 @@ module _ (x : ℕ) (name : Name) where
   pub entering_written : (k : AstType) (p : Place) → (k ≡ kind.CatchParameter → AtMostOne (children_of role.Pattern p.node.children)) → any_in (declared_by k p) ≡ is_in (written_outside k p)
   entering_written kind.VariableDeclarator p one = variables_written p.path p
   entering_written kind.Function p one =
-      outside_if (is_statement p.node) (map (declare p.node (function_row p) (has mark.Pure p.node)) (ids p.node)) (names_in (innermost p.chain).opener (ids p.node))
+      outside_if (is_statement p.node) (map (declaration_at p.node (function_row p) (has mark.Pure p.node)) (ids p.node)) (names_in (innermost p.chain).opener (ids p.node))
       (row_written p.node (function_row p) (has mark.Pure p.node) (innermost p.chain) (function_stands p).0 (function_stands p).1 (ids p.node))
   entering_written kind.Class p one =
-      outside_if (is_statement p.node) (map (declare p.node (class_row p p.chain) false) (ids p.node)) (names_in (innermost p.chain).opener (ids p.node))
+      outside_if (is_statement p.node) (map (declaration_at p.node (class_row p p.chain) false) (ids p.node)) (names_in (innermost p.chain).opener (ids p.node))
       (row_written p.node (class_row p p.chain) false (innermost p.chain) (class_counts p.node) refl (ids p.node))
   entering_written kind.CatchParameter p one = catch_written p (children_of role.Pattern p.node.children) (one refl)
   entering_written kind.FormalParameter p one = parameters_idle p.path p
@@ -221,10 +221,10 @@ module _ (x : ℕ) (name : Name) where
   -- what it declares in its own scope
   pub opening_written : (k : AstType) (p : Place) (own : OpenScope) → own.opener ≡ p.node.node_id → any_in (declared_inside k p own) ≡ is_in (written_inside k p.node)
   opening_written kind.Function p own e =
-      inside_if (is_statement p.node) (map (declare p.node (own_function_row p own) (has mark.Pure p.node)) (ids p.node)) (names_in p.node.node_id (ids p.node))
+      inside_if (is_statement p.node) (map (declaration_at p.node (own_function_row p own) (has mark.Pure p.node)) (ids p.node)) (names_in p.node.node_id (ids p.node))
       (row_written p.node (own_function_row p own) (has mark.Pure p.node) own (function_counts p.node) refl (ids p.node) ∙ ap (λ n. is_in (names_in n (ids p.node))) e)
   opening_written kind.Class p own e =
-      inside_if (is_statement p.node) (map (declare p.node (class_row p (own ∷ [])) false) (ids p.node)) (names_in p.node.node_id (ids p.node))
+      inside_if (is_statement p.node) (map (declaration_at p.node (class_row p (own ∷ [])) false) (ids p.node)) (names_in p.node.node_id (ids p.node))
       (row_written p.node (class_row p (own ∷ [])) false own (class_counts p.node) refl (ids p.node) ∙ ap (λ n. is_in (names_in n (ids p.node))) e)
   opening_written kind.TSMappedType p own e = row_idle p.node (type_parameter_row (here (own ∷ []))) false refl (names_at role.Key p.node)
   opening_written _ p own e = refl

@@ -27,7 +27,7 @@ use Rattle.semantic_model.proofs.form.ParameterShape.{stands_under, parameters_s
 use Rattle.semantic_model.proofs.fold.Orders.{HasForm}
 use Rattle.semantic_model.proofs.form.Shape.{NoneMisshapen, has_form, none_misshapen, first_formed, rest_formed, table_kept, fit_kept}
 use Rattle.semantic_model.proofs.steps.TurnCases.{ending_case}
-use Rattle.walk_model.specs.WrittenNames.{Written, is_written, Openers, openers_at, written_by, written_below, names_written, any_standing}
+use Rattle.walk_model.specs.WrittenNames.{WrittenName, is_written, Openers, openers_at, written_by, written_below, names_written, any_standing}
 use Rattle.semantic_model.proofs.form.ParameterChains.{is_open_inside}
 use Rattle.walk_model.proofs.written.OpenersFit.{FitOpeners, IsOwn, own_at, child_fits}
 use Rattle.walk_model.proofs.written.WrittenRows.{written_inside, is_in, any_in, any_append}
@@ -56,13 +56,13 @@ module _ (x : ℕ) (name : Name) where
   abbrev any_of : List Step → Bool
   any_of ss = any_in x name (written_declarations ss)
 
-  abbrev on : List Written → Bool
+  abbrev on : List WrittenName → Bool
   on ws = is_in x name ws
 
   steps_append : (ss ts : List Step) → any_of (ss ++ ts) ≡ (any_of ss || any_of ts)
   steps_append ss ts = ap (any_in x name) (flat-append declared_at ss ts) ∙ any_append x name (flat_map declared_at ss) (flat_map declared_at ts)
 
-  on_append : (vs ws : List Written) → on (vs ++ ws) ≡ (on vs || on ws)
+  on_append : (vs ws : List WrittenName) → on (vs ++ ws) ≡ (on vs || on ws)
   on_append vs ws = list_any-append _ vs ws
 
   -- what a node is still to write in its own scope

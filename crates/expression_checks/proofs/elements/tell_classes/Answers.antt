@@ -2,7 +2,7 @@ use Rattle.std.proofs.Common.{◌≡◌, ◌++◌, map, subst, sym}
 use Rattle.class_table.specs.Seen.{element_seen}
 use Rattle.check_model.specs.Elements.{class_rows}
 use Rattle.check_context.specs.Handed.{around}
-use Rattle.check_context.specs.Tells.{IsBegun}
+use Rattle.check_context.specs.Tells.{TellsSome}
 use Rattle.check_context.proofs.Telling.{loop_stops, goes_past}
 use Rattle.expression_checks.specs.SoundElements.{AreSound}
 use Rattle.expression_checks.proofs.EachClass.{each_at, next_at}
@@ -20,7 +20,7 @@ returns-in_err-tell_class c =
     loop_stops _ (class_rows (around c.args.ctx.now)) _ _ _ _ _ _ _ c.from_residual.result c.from_residual.ensures.1
     (next_at (λ v. map element_seen v.items) c.args.classes.now c.loop-elements.elements-index c.elements-item.result c.loop-elements-test.true c.elements-item.is)
     c.loop-elements.invariant
-    (subst (λ els. IsBegun (class_rows (around c.args.ctx.now) (map element_seen els)) c.loop-elements.out c.tell_class.new.out) c.as_slice.ensures.value c.in_err-tell_class.ensures)
+    (subst (λ els. TellsSome (class_rows (around c.args.ctx.now) (map element_seen els)) c.loop-elements.out c.tell_class.new.out) c.as_slice.ensures.value c.in_err-tell_class.ensures)
 
 pub loop-elements-preserved : goal.loop-elements-preserved
 loop-elements-preserved c =

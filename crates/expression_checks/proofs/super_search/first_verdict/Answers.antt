@@ -4,7 +4,7 @@ use Rattle.semantic_syntax.specs.Reading.{parent_of}
 use Rattle.check_model.specs.Context.{seen_row}
 use Rattle.check_model.specs.Sight.{Sight, SeenScope, SeenClass}
 use Rattle.check_model.specs.Super.{kept_after, search_from}
-use Rattle.check_model.specs.Surroundings.{outward}
+use Rattle.check_model.specs.Surroundings.{nodes_outward}
 use Rattle.check_context.specs.Handed.{sight}
 use Rattle.expression_checks.specs.Searches.{classes_kept}
 use Rattle.expression_checks.specs.Verdicts.{verdict_shown}
@@ -46,7 +46,7 @@ loop-left-preserved c =
     ap (scopes_from t) c.in-Some.is ∙ stepped t c.attest.ensures.source scope c.outer_scope-left.result within (sym c.outer_scope-left.ensures.value) in
     let around : classes_kept c.args.ctx.now c.pass.new.self.kept ≡ kept_after kept seen = c.pass.ensures.kept ∙ ap (λ class. kept_after (classes_kept c.args.ctx.now class) seen) c.in-None.ensures.kept in
     let from : c.pass.new.self.from ≡ seen.opener = c.pass.ensures.from in record {
-      searching = record { along = subst (GoesAlong (outward s)) (sym c.pass.ensures.way) c.in-None.ensures.searching.along; kept = c.pass.ensures.there };
+      searching = record { along = subst (GoesAlong (nodes_outward s)) (sym c.pass.ensures.way) c.in-None.ensures.searching.along; kept = c.pass.ensures.there };
       scope = c.outer_scope-left.ensures.within;
       rest =
           (λ i. search_from s (around i) (from i) (scopes_from t c.outer_scope-left.result))

@@ -3,7 +3,7 @@ use Rattle.std.proofs.lemmas.List.{length-map}
 use Rattle.semantic_model.specs.Step.{steps}
 use Rattle.name_lint.specs.Codes as lint
 use Rattle.name_lint.specs.Gathered.{Gathered, text_of, span_of}
-use Rattle.name_lint.specs.Known.{names_of}
+use Rattle.name_lint.specs.Known.{known_names}
 use Rattle.name_lint.specs.Lines.{name_lines}
 use Rattle.name_lint.specs.Undeclared.{reference_names, reference_spans}
 use Rattle.name_lint.proofs.InRange.{unused_below, undeclared_below}
@@ -32,7 +32,7 @@ finish_both-requires-clause-unused g c = unused_below c.args.program.now c.args.
 pub finish_both-requires-clause-undeclared : goal.finish_both-requires-clause-undeclared
 finish_both-requires-clause-undeclared g c =
     let texts : map text_of c.references.result.now ≡ reference_names (steps c.args.program.now) = c.references.ensures.names ∙ ap (λ (x : Gathered). x.names) c.in_ok-pass.ensures.gathered in
-    undeclared_below (names_of c.args.words.now) c.args.program.now c.in_ok-names.names.undeclared (length c.references.result.now) (sym (ap length texts) ∙ length-map c.references.result.now text_of) c.in_ok-names.ensures.undeclared
+    undeclared_below (known_names c.args.words.now) c.args.program.now c.in_ok-names.names.undeclared (length c.references.result.now) (sym (ap length texts) ∙ length-map c.references.result.now text_of) c.in_ok-names.ensures.undeclared
 
 pub returns : goal.returns
 returns g c =

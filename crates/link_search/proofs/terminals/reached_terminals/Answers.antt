@@ -2,8 +2,8 @@ use Rattle.std.proofs.Common.{◌≡◌, ◌<◌, ◌∷◌, [], inl, ℕ, refl,
 use Rattle.link_search.specs.declared.terminals.Terminals.{Terminals}
 use Rattle.std.specs.declared.alloc.Global.{Global}
 use Rattle.std.proofs.lemmas.List.{length-map}
-use Rattle.reachability.specs.Rows.{row, lists, rows_of, AreWithin}
-use Rattle.link_search.specs.Reached.{Spread, Tells, value_of, with_ends, backward_from}
+use Rattle.reachability.specs.Rows.{row, lists, rows_from_pairs, AreWithin}
+use Rattle.link_search.specs.Reached.{Spread, AnswerTells, known_of, with_ends, backward_from}
 use Rattle.link_search.proofs.Spreads.{Knows, work, begins, tells, backward_within}
 use Rattle.link_search.proofs.Backward.{back, back_within, turned}
 use Rattle.reachability.proofs.Within.{length_rows_of}
@@ -16,8 +16,8 @@ within : (vs : List (Vec ℕ Global)) → AreWithin (length vs) (lists vs) → A
 within vs w = subst (λ n. AreWithin n (lists vs)) (sym (len vs)) w
 
 -- the rows that were made are those of the steps backward
-made : (vs bs : List (Vec ℕ Global)) (ps qs : List (ℕ × ℕ)) (w : AreWithin (length vs) (lists vs)) → lists bs ≡ rows_of (length vs) ps → ps ≡ qs → qs ≡ backward_from 0 (lists vs) → lists bs ≡ back (lists vs) (within vs w)
-made vs bs ps qs w e f g = e ∙ ap (λ n. rows_of n ps) (sym (len vs)) ∙ ap (rows_of (length (lists vs))) (f ∙ g)
+made : (vs bs : List (Vec ℕ Global)) (ps qs : List (ℕ × ℕ)) (w : AreWithin (length vs) (lists vs)) → lists bs ≡ rows_from_pairs (length vs) ps → ps ≡ qs → qs ≡ backward_from 0 (lists vs) → lists bs ≡ back (lists vs) (within vs w)
+made vs bs ps qs w e f g = e ∙ ap (λ n. rows_from_pairs n ps) (sym (len vs)) ∙ ap (rows_from_pairs (length (lists vs))) (f ∙ g)
 
 fresh : ℕ → Spread
 fresh n = record { values = replicate n Terminals.Nowhere; news = [] }
@@ -71,6 +71,6 @@ loop-b-preserved c =
 
 pub returns-clause-tells : goal.returns-clause-tells
 returns-clause-tells c = λ a.
-    subst (λ (vs : List Terminals). Tells (lists c.args.rows.now) c.args.ends.now (value_of vs a) a)
+    subst (λ (vs : List Terminals). AnswerTells (lists c.args.rows.now) c.args.ends.now (known_of vs a) a)
     (sym (c.into_values.ensures ∙ ap (λ (s : Spread). s.values) c.in_default.ensures.kept))
     (tells (lists c.args.rows.now) c.args.ends.now (length (lists c.args.rows.now)) c.loop-b.spreading a c.loop-b.invariant c.in_default.ensures.none)

@@ -5,7 +5,7 @@ use Rattle.semantic_tree.specs.Children.{forest_of}
 use Rattle.semantic_tree.specs.Falls.{child_is_smaller}
 use Rattle.semantic_tree.specs.Forest.{Forest, count, join}
 use Rattle.semantic_tree.specs.declared.node.Node.{Node}
-use Rattle.mangle_model.specs.Assignment.{listed}
+use Rattle.mangle_model.specs.Assignment.{assignment_of}
 use Rattle.mangle_model.specs.Renamed.{given}
 use Rattle.mangle_model.specs.WithNames.{with_names}
 use Rattle.renamer.specs.Told.{told_by}
@@ -26,7 +26,7 @@ push_renamed-requires t c =
 
 pub loop-role-preserved : goal.loop-role-preserved
 loop-role-preserved t c =
-    let names : ℕ → Option Name = given (listed c.args.names.now) (told_by c.args.analysed.now) in
+    let names : ℕ → Option Name = given (assignment_of c.args.names.now) (told_by c.args.analysed.now) in
     let items = c.as_slice-role-items.result.now in
     let i = c.loop-role.role-index in
     let child = c.loop-role-item.result in
@@ -44,7 +44,7 @@ loop-role-preserved t c =
 
 pub returns : goal.returns
 returns t c =
-    let names : ℕ → Option Name = given (listed c.args.names.now) (told_by c.args.analysed.now) in
+    let names : ℕ → Option Name = given (assignment_of c.args.names.now) (told_by c.args.analysed.now) in
     let items = c.as_slice-role-items.result.now in
     let into : Node = c.loop-role.into in
     let ended : length items ≤ c.loop-role.role-index = omega arith in

@@ -3,7 +3,7 @@ use Rattle.semantic_tree.specs.Children.{forest_of}
 use Rattle.semantic_tree.specs.Forest.{count, join}
 use Rattle.semantic_tree.specs.declared.node.Node.{Node}
 use Rattle.renamer.specs.Told.{told_by}
-use Rattle.mangle_model.specs.Assignment.{listed}
+use Rattle.mangle_model.specs.Assignment.{assignment_of}
 use Rattle.mangle_model.specs.Renamed.{given}
 use Rattle.mangle_model.specs.WithNames.{with_names}
 use Rattle.renamer.specs.Renaming.{AreKnown}
@@ -14,8 +14,8 @@ abbrev pub invariant-loop-role : goal.invariant-loop-role
 invariant-loop-role l = record {
   items : forest_of l.role-items ≡ l.from.children;
   known : AreKnown (forest_of (drop l.role-index l.role-items));
-  rest : ◌≡◌ {A = Node} (record l.into { children = join l.into.children (with_names (given (listed l.names) (told_by l.analysed)) (forest_of (drop l.role-index l.role-items))) })
-      (record l.initial.into { children = join l.initial.into.children (with_names (given (listed l.names) (told_by l.analysed)) l.from.children) });
+  rest : ◌≡◌ {A = Node} (record l.into { children = join l.into.children (with_names (given (assignment_of l.names) (told_by l.analysed)) (forest_of (drop l.role-index l.role-items))) })
+      (record l.initial.into { children = join l.initial.into.children (with_names (given (assignment_of l.names) (told_by l.analysed)) l.from.children) });
 }
 
 -- how many nodes are below

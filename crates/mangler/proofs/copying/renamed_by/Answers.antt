@@ -3,7 +3,7 @@ use Rattle.semantic_syntax.specs.Tables.{Name}
 use Rattle.semantic_tree.specs.Tree.{Tree}
 use Rattle.semantic_tree.specs.declared.node.Node.{Node}
 use Rattle.semantic_tree.proofs.ShapedLaws.{IsShaped-no_fault}
-use Rattle.mangle_model.specs.Assignment.{listed}
+use Rattle.mangle_model.specs.Assignment.{assignment_of}
 use Rattle.mangle_model.specs.Renamed.{given}
 use Rattle.mangle_model.specs.WithNames.{with_names}
 use Rattle.renamer.specs.Renaming.{AreKnown}
@@ -17,7 +17,7 @@ renamed_root-requires c = subst (λ (n : Node). AreKnown n.children) (sym (c.nod
 
 pub program_of-requires : goal.program_of-requires
 program_of-requires c =
-    let names : ℕ → Option Name = given (listed c.args.names.now) (told_by c.args.analysed.now) in
+    let names : ℕ → Option Name = given (assignment_of c.args.names.now) (told_by c.args.analysed.now) in
     let p : Tree = c.args.program.now in
     let root = c.in_ok-root.ensures ∙ ap (λ (n : Node). record n { children = with_names names n.children; node_id = 0 }) (c.node.ensures ∙ c.root.ensures.root) in
     let q : Tree = record { source = c.in_ok-source.source; source_type = c.source_type.result; comments = c.in_ok-comments.comments.items; root = c.in_ok-root.root } in
@@ -26,7 +26,7 @@ program_of-requires c =
 
 pub returns : goal.returns
 returns c =
-    let names : ℕ → Option Name = given (listed c.args.names.now) (told_by c.args.analysed.now) in
+    let names : ℕ → Option Name = given (assignment_of c.args.names.now) (told_by c.args.analysed.now) in
     let p : Tree = c.args.program.now in
     let root = c.in_ok-root.ensures ∙ ap (λ (n : Node). record n { children = with_names names n.children; node_id = 0 }) (c.node.ensures ∙ c.root.ensures.root) in
     let q : Tree = record { source = c.in_ok-source.source; source_type = c.source_type.result; comments = c.in_ok-comments.comments.items; root = c.in_ok-root.root } in

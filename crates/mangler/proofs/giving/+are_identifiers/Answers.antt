@@ -1,5 +1,5 @@
 use Rattle.std.proofs.Common.{ℕ, Bool, ◌<◌, length, sym, ◌∙◌, arith}
-use Rattle.mangle_model.specs.Assignment.{listed}
+use Rattle.mangle_model.specs.Assignment.{assignment_of}
 use Rattle.mangle_model.specs.Renamed.{given}
 use Rattle.mangle_model.specs.WithNames.{is_given}
 use Rattle.renamer.specs.Told.{told_by}
@@ -8,7 +8,7 @@ use Rattle.mangler.proofs.giving.+are_identifiers.Goals as goal
 
 pub returns-then-not-is_identifier_if_given : goal.returns-then-not-is_identifier_if_given
 returns-then-not-is_identifier_if_given t c =
-    let chosen : ℕ → Bool = is_given (given (listed c.args.names.now) (told_by c.args.analysed.now)) in
+    let chosen : ℕ → Bool = is_given (given (assignment_of c.args.names.now) (told_by c.args.analysed.now)) in
     let items = c.as_slice-child-items.result.now in
     let i = c.loop-child.child-index in
     let child = c.loop-child-item.result in
@@ -17,7 +17,7 @@ returns-then-not-is_identifier_if_given t c =
 
 pub returns-then-not-are_identifiers : goal.returns-then-not-are_identifiers
 returns-then-not-are_identifiers t c =
-    let chosen : ℕ → Bool = is_given (given (listed c.args.names.now) (told_by c.args.analysed.now)) in
+    let chosen : ℕ → Bool = is_given (given (assignment_of c.args.names.now) (told_by c.args.analysed.now)) in
     let items = c.as_slice-child-items.result.now in
     let i = c.loop-child.child-index in
     let child = c.loop-child-item.result in
@@ -26,7 +26,7 @@ returns-then-not-are_identifiers t c =
 
 pub loop-child-preserved : goal.loop-child-preserved
 loop-child-preserved t c =
-    let chosen : ℕ → Bool = is_given (given (listed c.args.names.now) (told_by c.args.analysed.now)) in
+    let chosen : ℕ → Bool = is_given (given (assignment_of c.args.names.now) (told_by c.args.analysed.now)) in
     let items = c.as_slice-child-items.result.now in
     let i = c.loop-child.child-index in
     let child = c.loop-child-item.result in

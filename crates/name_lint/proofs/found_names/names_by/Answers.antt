@@ -1,7 +1,7 @@
 use Rattle.std.proofs.Common.{ap, ◌∙◌}
 use Rattle.semantic_tree.proofs.ShapedLaws.{IsShaped-no_fault}
 use Rattle.name_lint.specs.Gathered.{Gathered}
-use Rattle.name_lint.specs.Known.{names_of}
+use Rattle.name_lint.specs.Known.{known_names}
 use Rattle.name_lint.proofs.ProgramNames.{all_symbols, unused_told, as_many, undeclared_told}
 use Rattle.name_lint.proofs.found_names.names_by.Goals as goal
 
@@ -23,4 +23,4 @@ returns-clause-unused c =
 pub returns-clause-undeclared : goal.returns-clause-undeclared
 returns-clause-undeclared c =
     c.in_ok-undeclared.ensures
-    ∙ undeclared_told c.args.program.now c.args.scoping.now c.requires.tables c.references.result.now (c.references.ensures.names ∙ ap (λ (x : Gathered). x.names) c.requires.pass.gathered) (names_of c.args.known.now)
+    ∙ undeclared_told c.args.program.now c.args.scoping.now c.requires.tables c.references.result.now (c.references.ensures.names ∙ ap (λ (x : Gathered). x.names) c.requires.pass.gathered) (known_names c.args.known.now)

@@ -2,7 +2,7 @@ use Rattle.std.proofs.Common.{◌≡◌, ℕ, List, length, map, sym, ap, ◌∙
 use Rattle.std.proofs.lemmas.List.{length-map}
 use Rattle.semantic_model.specs.Step.{steps}
 use Rattle.name_lint.specs.Gathered.{Gathered, text_of, span_of}
-use Rattle.name_lint.specs.Known.{names_of}
+use Rattle.name_lint.specs.Known.{known_names}
 use Rattle.name_lint.specs.Undeclared.{reference_names, reference_spans}
 use Rattle.program_ends.specs.FindingEnds.{end_of}
 use Rattle.name_lint.specs.Codes.{status_for}
@@ -25,7 +25,7 @@ finish_names-requires-clause-unused g c = unused_below c.args.program.now c.args
 pub finish_names-requires-clause-undeclared : goal.finish_names-requires-clause-undeclared
 finish_names-requires-clause-undeclared g c =
     let names : map text_of c.references.result.now ≡ reference_names (steps c.args.program.now) = c.references.ensures.names ∙ ap (λ (x : Gathered). x.names) c.in_ok-pass.ensures.gathered in
-    undeclared_below (names_of c.args.words.now) c.args.program.now c.in_ok-report.report.undeclared (length c.references.result.now) (sym (ap length names) ∙ length-map c.references.result.now text_of) c.in_ok-report.ensures.undeclared
+    undeclared_below (known_names c.args.words.now) c.args.program.now c.in_ok-report.report.undeclared (length c.references.result.now) (sym (ap length names) ∙ length-map c.references.result.now text_of) c.in_ok-report.ensures.undeclared
 
 pub returns : goal.returns
 returns g c =

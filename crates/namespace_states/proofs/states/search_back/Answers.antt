@@ -1,6 +1,6 @@
 use Rattle.std.proofs.Common.{◌≡◌, ◌<◌, ℕ, List, [], Vec, Bool, All, length, sym, ap, subst, ◌∙◌, arith, rules}
 use Rattle.std.specs.declared.alloc.Global.{Global}
-use Rattle.reachability.specs.Rows.{lists, rows_of}
+use Rattle.reachability.specs.Rows.{lists, rows_from_pairs}
 use Rattle.semantic_tree.specs.Children.{node_count}
 use Rattle.semantic_tree.specs.declared.node.Node.{Node}
 use Rattle.semantic_model.specs.Namespace.{InstanceState, instantiated, const_enum_only}
@@ -28,8 +28,8 @@ reached-requires-clause-rows c =
     let root : Node = c.args.root.node.now in
     let led : Led = c.args.leads.now in
     let pairs : c.as_slice.result.now ≡ led.backward = search rules in
-    let made : lists c.deref.result.now ≡ rows_of (node_count root) led.backward =
-    ap (λ (vs : List (Vec ℕ Global)). lists vs) c.deref.ensures.value ∙ c.in_ok-rows.ensures ∙ ap (λ n. rows_of n c.as_slice.result.now) c.requires.count ∙ ap (λ (ps : List (ℕ × ℕ)). rows_of (node_count root) ps) pairs in
+    let made : lists c.deref.result.now ≡ rows_from_pairs (node_count root) led.backward =
+    ap (λ (vs : List (Vec ℕ Global)). lists vs) c.deref.ensures.value ∙ c.in_ok-rows.ensures ∙ ap (λ n. rows_from_pairs n c.as_slice.result.now) c.requires.count ∙ ap (λ (ps : List (ℕ × ℕ)). rows_from_pairs (node_count root) ps) pairs in
     made_within (node_count root) c.deref.result.now led.backward made (firsts root c.requires.numbered led (noted_by root led c.requires.leads)) (seconds root c.requires.numbered led (noted_by root led c.requires.leads))
 
 pub reached-requires-clause-seeds : goal.reached-requires-clause-seeds
@@ -39,8 +39,8 @@ reached-requires-clause-seeds c =
     let pairs : c.as_slice.result.now ≡ led.backward = search rules in
     let seeds : c.as_slice-2.result.now ≡ led.values = search rules in
     let noted : IsNoted root led = noted_by root led c.requires.leads in
-    let made : lists c.deref.result.now ≡ rows_of (node_count root) led.backward =
-    ap (λ (vs : List (Vec ℕ Global)). lists vs) c.deref.ensures.value ∙ c.in_ok-rows.ensures ∙ ap (λ n. rows_of n c.as_slice.result.now) c.requires.count ∙ ap (λ (ps : List (ℕ × ℕ)). rows_of (node_count root) ps) pairs in
+    let made : lists c.deref.result.now ≡ rows_from_pairs (node_count root) led.backward =
+    ap (λ (vs : List (Vec ℕ Global)). lists vs) c.deref.ensures.value ∙ c.in_ok-rows.ensures ∙ ap (λ n. rows_from_pairs n c.as_slice.result.now) c.requires.count ∙ ap (λ (ps : List (ℕ × ℕ)). rows_from_pairs (node_count root) ps) pairs in
     subst (λ n. All (λ a. a < n) c.as_slice-2.result.now) (sym (made_count (node_count root) c.deref.result.now led.backward made))
     (subst (λ (xs : List ℕ). All (λ a. a < node_count root) xs) (sym seeds) (seeds_within root c.requires.numbered led noted instantiated led.values (values_of root c.requires.numbered led noted)))
 
@@ -49,8 +49,8 @@ reached-requires-2-clause-rows c =
     let root : Node = c.args.root.node.now in
     let led : Led = c.args.leads.now in
     let pairs : c.as_slice.result.now ≡ led.backward = search rules in
-    let made : lists c.deref-2.result.now ≡ rows_of (node_count root) led.backward =
-    ap (λ (vs : List (Vec ℕ Global)). lists vs) c.deref-2.ensures.value ∙ c.in_ok-rows.ensures ∙ ap (λ n. rows_of n c.as_slice.result.now) c.requires.count ∙ ap (λ (ps : List (ℕ × ℕ)). rows_of (node_count root) ps) pairs in
+    let made : lists c.deref-2.result.now ≡ rows_from_pairs (node_count root) led.backward =
+    ap (λ (vs : List (Vec ℕ Global)). lists vs) c.deref-2.ensures.value ∙ c.in_ok-rows.ensures ∙ ap (λ n. rows_from_pairs n c.as_slice.result.now) c.requires.count ∙ ap (λ (ps : List (ℕ × ℕ)). rows_from_pairs (node_count root) ps) pairs in
     made_within (node_count root) c.deref-2.result.now led.backward made (firsts root c.requires.numbered led (noted_by root led c.requires.leads)) (seconds root c.requires.numbered led (noted_by root led c.requires.leads))
 
 pub reached-requires-2-clause-seeds : goal.reached-requires-2-clause-seeds
@@ -60,8 +60,8 @@ reached-requires-2-clause-seeds c =
     let pairs : c.as_slice.result.now ≡ led.backward = search rules in
     let seeds : c.as_slice-3.result.now ≡ led.const_enums = search rules in
     let noted : IsNoted root led = noted_by root led c.requires.leads in
-    let made : lists c.deref-2.result.now ≡ rows_of (node_count root) led.backward =
-    ap (λ (vs : List (Vec ℕ Global)). lists vs) c.deref-2.ensures.value ∙ c.in_ok-rows.ensures ∙ ap (λ n. rows_of n c.as_slice.result.now) c.requires.count ∙ ap (λ (ps : List (ℕ × ℕ)). rows_of (node_count root) ps) pairs in
+    let made : lists c.deref-2.result.now ≡ rows_from_pairs (node_count root) led.backward =
+    ap (λ (vs : List (Vec ℕ Global)). lists vs) c.deref-2.ensures.value ∙ c.in_ok-rows.ensures ∙ ap (λ n. rows_from_pairs n c.as_slice.result.now) c.requires.count ∙ ap (λ (ps : List (ℕ × ℕ)). rows_from_pairs (node_count root) ps) pairs in
     subst (λ n. All (λ a. a < n) c.as_slice-3.result.now) (sym (made_count (node_count root) c.deref-2.result.now led.backward made))
     (subst (λ (xs : List ℕ). All (λ a. a < node_count root) xs) (sym seeds) (seeds_within root c.requires.numbered led noted const_enum_only led.const_enums (const_enums_of root c.requires.numbered led noted)))
 
@@ -71,10 +71,10 @@ returns c = λ i a.
     let led : Led = c.args.leads.now in
     let noted : IsNoted root led = noted_by root led c.requires.leads in
     let pairs : c.as_slice.result.now ≡ led.backward = search rules in
-    let rows : lists c.in_ok-rows.rows.items ≡ rows_of (node_count root) led.backward =
-    c.in_ok-rows.ensures ∙ ap (λ n. rows_of n c.as_slice.result.now) c.requires.count ∙ ap (λ (ps : List (ℕ × ℕ)). rows_of (node_count root) ps) pairs in
-    let first : lists c.deref.result.now ≡ rows_of (node_count root) led.backward = ap (λ (vs : List (Vec ℕ Global)). lists vs) c.deref.ensures.value ∙ rows in
-    let second : lists c.deref-2.result.now ≡ rows_of (node_count root) led.backward = ap (λ (vs : List (Vec ℕ Global)). lists vs) c.deref-2.ensures.value ∙ rows in
+    let rows : lists c.in_ok-rows.rows.items ≡ rows_from_pairs (node_count root) led.backward =
+    c.in_ok-rows.ensures ∙ ap (λ n. rows_from_pairs n c.as_slice.result.now) c.requires.count ∙ ap (λ (ps : List (ℕ × ℕ)). rows_from_pairs (node_count root) ps) pairs in
+    let first : lists c.deref.result.now ≡ rows_from_pairs (node_count root) led.backward = ap (λ (vs : List (Vec ℕ Global)). lists vs) c.deref.ensures.value ∙ rows in
+    let second : lists c.deref-2.result.now ≡ rows_from_pairs (node_count root) led.backward = ap (λ (vs : List (Vec ℕ Global)). lists vs) c.deref-2.ensures.value ∙ rows in
     let value_seeds : c.as_slice-2.result.now ≡ led.values = search rules in
     let enum_seeds : c.as_slice-3.result.now ≡ led.const_enums = search rules in
     let values : List Bool = c.in_ok-values.values.items in

@@ -1,11 +1,11 @@
 use Rattle.std.proofs.Common.{◌∙◌}
-use Rattle.renamer.specs.Requests.{asked_by}
+use Rattle.renamer.specs.Requests.{asked_in_request}
 use Rattle.renamer.proofs.Asking.{answers_nothing}
 use Rattle.renamer.proofs.Outcomes.{built}
 use Rattle.renamer.proofs.rename.rename_asked.Goals as goal
 
 pub returns-in_err-analysis : goal.returns-in_err-analysis
-returns-in_err-analysis c = answers_nothing (asked_by c.args.request.now) c.args.program.now c.from_residual.result c.from_residual.ensures.1
+returns-in_err-analysis c = answers_nothing (asked_in_request c.args.request.now) c.args.program.now c.from_residual.result c.from_residual.ensures.1
 
 pub rename_known-result-requires-clause-analysis : goal.rename_known-result-requires-clause-analysis
 rename_known-result-requires-clause-analysis c =

@@ -6,7 +6,7 @@ use Rattle.semantic_tree.specs.Forest.{count}
 use Rattle.semantic_tree.specs.declared.node.Node.{Node}
 use Rattle.semantic_tree.specs.declared.swap.Setting.{Setting}
 use Rattle.mangle_model.specs.OneNameEach.{bears_such, fixed_below}
-use Rattle.simple_names.specs.Telling.{has, may_by, told_by}
+use Rattle.simple_names.specs.Telling.{is_name_among, may_by, told_by}
 use Rattle.simple_names.proofs.StandingTurns.{standing_turn}
 use Rattle.simple_names.proofs.standing.+add_names.Goals as goal
 
@@ -32,6 +32,6 @@ loop-role-preserved t c =
       rest = λ q.
           standing_turn bears c.args.setting q items c.loop-role.role-index child c.loop-role.names c.add_name.new.names c.add_names.new.names _ within c.loop-role-item.is
           (c.in_ok-add_name.ensures q)
-          (c.in_ok-add_names.ensures q ∙ ap (λ (s : Setting). has c.add_name.new.names q || has (fixed_below bears s child.1.children) q) c.setting_below-below.ensures)
+          (c.in_ok-add_names.ensures q ∙ ap (λ (s : Setting). is_name_among c.add_name.new.names q || is_name_among (fixed_below bears s child.1.children) q) c.setting_below-below.ensures)
           (c.loop-role.invariant.rest q);
     }

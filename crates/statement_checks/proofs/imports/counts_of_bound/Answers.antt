@@ -3,14 +3,14 @@ use Rattle.std.proofs.lemmas.List.{get_or_default}
 use Rattle.std.proofs.lemmas.Map.Iter.{rest_more}
 use Rattle.std.specs.Map.{values_of}
 use Rattle.semantic_syntax.specs.Reading.{bindings_of}
-use Rattle.statement_checks.specs.Bound.{bound_in, AreCounting}
+use Rattle.statement_checks.specs.Bound.{root_symbols, AreCounting}
 use Rattle.statement_checks.proofs.Counts.{count_fits}
 use Rattle.statement_checks.proofs.imports.counts_of_bound.Goals as goal
 
 pub overflow_add-index_mut : goal.overflow_add-index_mut
 overflow_add-index_mut c =
     let t = c.args.scoping.now in
-    let bound = bound_in t in
+    let bound = root_symbols t in
     let y = c.in-Some.symbol in
     let counts = c.loop-symbol.counts.items in
     let rest : List ℕ = c.next.new.self in

@@ -1,11 +1,11 @@
 use Rattle.std.proofs.Common.{◌≡◌, ◌||◌, length}
 use Rattle.std.specs.Prelude.{find}
 use Rattle.node_store.specs.PathLeft.{path_left}
-use Rattle.check_model.specs.Jumps.{is_end, is_labelled_by}
+use Rattle.check_model.specs.Jumps.{ends_jump_search, is_labelled_by}
 use Rattle.statement_checks.proofs.jumps.met_by_label.Given as goal
 
 abbrev pub invariant-loop-kind : goal.invariant-loop-kind
-invariant-loop-kind l = find (λ node. is_end node || is_labelled_by l.label.node.now node) (path_left l.left) ≡ find (λ node. is_end node || is_labelled_by l.label.node.now node) (path_left l.initial.left)
+invariant-loop-kind l = find (λ node. ends_jump_search node || is_labelled_by l.label.node.now node) (path_left l.left) ≡ find (λ node. ends_jump_search node || is_labelled_by l.label.node.now node) (path_left l.initial.left)
 
 abbrev pub decreases-loop-kind : goal.decreases-loop-kind
 decreases-loop-kind l = length (path_left l.left)

@@ -2,7 +2,7 @@ use Rattle.std.proofs.Common.{◌≡◌, ◌<◌, length, ap, ◌∙◌}
 use Rattle.std.specs.List.{AllByRecursion}
 use Rattle.std.specs.Str.{chars}
 use Rattle.class_table.specs.Lists.{ClassLists, elements_in}
-use Rattle.class_table.specs.Meanings.{Key, ids_meant, key_eq, meanings_of}
+use Rattle.class_table.specs.Meanings.{ElementKey, ids_meant, key_eq, meanings_of}
 use Rattle.class_table.specs.View.{lists_of}
 use Rattle.std.specs.Map.{lookup}
 use Rattle.class_table.proofs.Matches.{ids_within}
@@ -15,7 +15,7 @@ pub returns-clause-ids : goal.returns-clause-ids
 returns-clause-ids c =
     let lists = lists_of c.self.inside in
     let within : c.args.c < length lists.nodes = rw (← c.self.view_is) at c.requires in
-    let key : Key = (chars c.args.name.text.now, c.args.is_private) in
+    let key : ElementKey = (chars c.args.name.text.now, c.args.is_private) in
     let names : c.index-2.result.now ≡ meanings_of (elements_in c.args.self.now c.args.c) =
     names_at c.self.inside.names.items lists.elements c.args.c c.index.result c.index-2.result.now c.self.invariant.named c.index.ensures c.index-2.ensures (within_elements lists c.args.c c.self.invariant.lists within)
     ∙ ap (λ (l : ClassLists). meanings_of (elements_in l c.args.c)) c.self.view_is in

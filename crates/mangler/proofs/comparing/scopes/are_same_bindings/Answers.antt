@@ -2,7 +2,7 @@ use Rattle.std.proofs.Common.{◌≡◌, ◌<◌, ℕ, [], length, map, true, fa
 use Rattle.std.specs.Cmp.Lexicographic.{pointwise}
 use Rattle.semantic_syntax.specs.Reading.{bindings_of}
 use Rattle.semantic_syntax.specs.Tables.{Bindings}
-use Rattle.mangle_model.specs.Assignment.{listed}
+use Rattle.mangle_model.specs.Assignment.{assignment_of}
 use Rattle.mangle_model.specs.Alike.{renamed_binding}
 use Rattle.mangle_model.specs.Tests.{same_binding}
 use Rattle.mangler.proofs.Pairs.{pair_passes, pair_fails, mapped_at, mapped_long}
@@ -11,7 +11,7 @@ use Rattle.mangler.proofs.comparing.scopes.are_same_bindings.Goals as goal
 pub returns-then-not-binds_the_same : goal.returns-then-not-binds_the_same
 returns-then-not-binds_the_same c =
     let i : ℕ = c.loop-number.number in
-    let renamed : Bindings → Bindings = map (renamed_binding (listed c.args.names.now)) in
+    let renamed : Bindings → Bindings = map (renamed_binding (assignment_of c.args.names.now)) in
     let long : length (map renamed c.args.one.now.bindings) ≡ length c.args.one.now.bindings = mapped_long renamed c.args.one.now.bindings in
     let within : i < length (map renamed c.args.one.now.bindings) = omega arith in
     let as_well : i < length c.args.other.now.bindings = omega arith in
@@ -24,7 +24,7 @@ returns-then-not-binds_the_same c =
 pub loop-number-preserved : goal.loop-number-preserved
 loop-number-preserved c =
     let i : ℕ = c.loop-number.number in
-    let renamed : Bindings → Bindings = map (renamed_binding (listed c.args.names.now)) in
+    let renamed : Bindings → Bindings = map (renamed_binding (assignment_of c.args.names.now)) in
     let long : length (map renamed c.args.one.now.bindings) ≡ length c.args.one.now.bindings = mapped_long renamed c.args.one.now.bindings in
     let within : i < length (map renamed c.args.one.now.bindings) = omega arith in
     let as_well : i < length c.args.other.now.bindings = omega arith in

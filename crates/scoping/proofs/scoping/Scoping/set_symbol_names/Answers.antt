@@ -1,7 +1,7 @@
 use Rattle.std.proofs.Common.{refl, ap, ◌∙◌, length, fold}
 use Rattle.std.proofs.lemmas.List.{length-map}
 use Rattle.scoping_rows.specs.Names.{name_of}
-use Rattle.semantic_syntax.specs.Writing.{with_name}
+use Rattle.semantic_syntax.specs.Writing.{with_symbol_name}
 use Rattle.semantic_syntax.proofs.Results.{on_err}
 use Rattle.scoping.proofs.Clones.{sound_same}
 use Rattle.scoping.proofs.Folds.{length_named, named_named, shown_named}
@@ -23,7 +23,7 @@ returns-clause-ok c =
     rw (← c.self.view_is, c.set_names.ensures)
     (tables_eq _ _ refl (bindings_interned c.self.inside c.self.invariant _ _ _ interned)
     (shown_named c.intern.new.self c.in_ok-number.number (name_of c.args.name) interned.number.named c.args.ids.now c.self.inside.symbols.items (rw (← c.self.view_is, length-map) at c.requires)
-    ∙ ap (λ ys. fold (with_name (name_of c.args.name)) ys c.args.ids.now) (symbols_interned c.self.inside c.self.invariant _ _ _ interned))
+    ∙ ap (λ ys. fold (with_symbol_name (name_of c.args.name)) ys c.args.ids.now) (symbols_interned c.self.inside c.self.invariant _ _ _ interned))
     refl refl (free_interned c.self.inside c.self.invariant _ _ _ interned) refl)
 
 pub invariant_of-self : goal.invariant_of-self

@@ -6,7 +6,7 @@ use Rattle.semantic_tree.specs.Children.{single}
 use Rattle.semantic_tree.specs.Forest.{Forest, count}
 use Rattle.semantic_tree.proofs.ShapedLaws.{IsShaped-no_fault}
 use Rattle.semantic_model.specs.Inside.{opens}
-use Rattle.walk_model.specs.Counted.{is_symbol, is_reference}
+use Rattle.walk_model.specs.Counted.{declares_symbol, is_reference}
 use Rattle.semantic_queries.proofs.Counting.{kind_fits, kinds_added, openers}
 use Rattle.semantic_queries.proofs.Sizes.{tables_of_size}
 use Rattle.semantic_queries.proofs.stats.Stats.count.Goals as goal
@@ -21,7 +21,7 @@ pub add_kind-requires-clause-symbols : goal.add_kind-requires-clause-symbols
 add_kind-requires-clause-symbols c =
     let f : Forest = single role.Root c.args.p.now.root in
     let small : count f < 2 ^ 32 = omega (arith, c.node_count.type_inv, c.node_count.ensures) in
-    kind_fits is_symbol f c.all-kind-items.result.now c.loop-kind.kind-index kind.Program c.loop-kind.stats.symbols c.count_of.result small c.loop-kind-test.true c.count_of.ensures c.loop-kind.invariant.symbols
+    kind_fits declares_symbol f c.all-kind-items.result.now c.loop-kind.kind-index kind.Program c.loop-kind.stats.symbols c.count_of.result small c.loop-kind-test.true c.count_of.ensures c.loop-kind.invariant.symbols
 
 pub add_kind-requires-clause-references : goal.add_kind-requires-clause-references
 add_kind-requires-clause-references c =
@@ -37,7 +37,7 @@ returns-clause-nodes c =
     record {
       nodes = omega (arith, all.nodes);
       scopes = kinds_added opens f kinds c.loop-kind.kind-index c.loop-kind.stats.scopes c.loop-kind-test.false all.scopes ∙ openers f;
-      symbols = kinds_added is_symbol f kinds c.loop-kind.kind-index c.loop-kind.stats.symbols c.loop-kind-test.false all.symbols;
+      symbols = kinds_added declares_symbol f kinds c.loop-kind.kind-index c.loop-kind.stats.symbols c.loop-kind-test.false all.symbols;
       references = kinds_added is_reference f kinds c.loop-kind.kind-index c.loop-kind.stats.references c.loop-kind-test.false all.references;
     }
 

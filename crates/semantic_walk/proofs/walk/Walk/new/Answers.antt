@@ -8,7 +8,7 @@ use Rattle.semantic_tree.proofs.ShapedLaws.{IsShaped-no_fault}
 use Rattle.semantic_model.specs.Step.{root_place}
 use Rattle.walk_model.specs.Opens.{open_scope}
 use Rattle.walk_model.specs.WalkState.{nothing_made}
-use Rattle.walk_model.specs.WrittenNames.{Written, is_written, is_sloppy, names_written}
+use Rattle.walk_model.specs.WrittenNames.{WrittenName, is_written, is_sloppy, names_written}
 use Rattle.walk_model.proofs.turns.RootSteps.{root_scope}
 use Rattle.walk_model.proofs.turns.Seats.{root_is_program}
 use Rattle.walk_notes.specs.NoteLists.{nothing_noted}
@@ -32,11 +32,11 @@ pub returns-clause-states : goal.returns-clause-states
 returns-clause-states c = c.in_ok-states.ensures.searched
 
 -- where functions don't move, no name bars them
-barred_by : (ws : List Written) (sloppy : Bool) (opener : ℕ) (name : Name) → is_written (cond sloppy ws []) opener name ≡ (sloppy && is_written ws opener name)
+barred_by : (ws : List WrittenName) (sloppy : Bool) (opener : ℕ) (name : Name) → is_written (cond sloppy ws []) opener name ≡ (sloppy && is_written ws opener name)
 barred_by ws true opener name = refl
 barred_by ws false opener name = refl
 
 pub returns-clause-names : goal.returns-clause-names
 returns-clause-names c = λ opener name.
     let program : Tree = c.args.program.now in
-    ap (λ (ws : List Written). is_written ws opener name) c.new-2.ensures ∙ barred_by (names_written program) (is_sloppy program.source_type) opener name
+    ap (λ (ws : List WrittenName). is_written ws opener name) c.new-2.ensures ∙ barred_by (names_written program) (is_sloppy program.source_type) opener name

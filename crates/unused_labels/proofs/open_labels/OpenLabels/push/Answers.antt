@@ -1,6 +1,6 @@
 use Rattle.std.proofs.Common.{◌≡◌, [], ◌∷◌, ◌++◌, length, arith, rules}
 use Rattle.unused_labels.specs.declared.open_labels.OpenLabel.{OpenLabel}
-use Rattle.unused_labels.specs.OpenPlaces.{nowhere, place_in}
+use Rattle.unused_labels.specs.OpenPlaces.{nowhere, places_of_map}
 use Rattle.unused_labels.proofs.Places.{pushed}
 use Rattle.unused_labels.proofs.open_labels.OpenLabels.push.Goals as goal
 
@@ -11,4 +11,4 @@ invariant_of-self-2 c =
     let now : c.push.new.self.items ≡ was ++ label ∷ [] = search rules in
     let place : c.len.result ≡ length was = search rules in
     rw now
-    (pushed nowhere 0 c.len.result was (place_in c.self.inside.innermost.entries) (place_in c.insert.new.self.entries) label c.self.invariant (omega (arith, place)) c.spell.ensures c.in_ok-outer.ensures.old c.in_ok-outer.ensures.updates.0)
+    (pushed nowhere 0 c.len.result was (places_of_map c.self.inside.innermost.entries) (places_of_map c.insert.new.self.entries) label c.self.invariant (omega (arith, place)) c.spell.ensures c.in_ok-outer.ensures.old c.in_ok-outer.ensures.updates.0)
