@@ -6,3 +6,4 @@ pub mod Utf8
 pub mod NamesOnce
 pub mod NamesFound
 pub mod Decimals
+pub mod Made

@@ -5,3 +5,4 @@ pub mod CountLines
 pub mod FreeNames
 pub mod DiagnosticLine
 pub mod Rows
+pub mod Made

@@ -3,6 +3,7 @@ ghost use Rattle.std.specs.Prelude.{ℕ, ◌≡◌, ◌<◌, ◌++◌, [], OnOk,
 ghost use Rattle.std.specs.List.{list_all};
 ghost use Rattle.report_ends.specs.Offers.{OffersPiece};
 ghost use Rattle.report_ends.specs.Streams.{Writes};
+ghost use Rattle.report_lines.specs.Made.{OffersMade};
 ghost use Rattle.report_lines.specs.Pieces.{quoted, is_plain_byte, two_digits, number_or_dash, behind_space, span_text};
 
 use itoa::Buffer;
@@ -215,5 +216,19 @@ impl Line {
         ensures pieces { OffersPiece K.Offered out.old out.new self.now result }
     {
         write_whole(&self.bytes, out)
+    }
+
+    /// Offers the line that was to be made. Where memory was wanting to make it nothing is offered.
+    pub fn offer_made<K: Sink>(
+        &self,
+        made: Result<(), AllocError>,
+        out: &mut K,
+    ) -> Result<(), ReportError>
+        ensures { OffersMade K.held K.faults K.Offered out.old out.new made self.now result }
+    {
+        match made {
+            Ok(()) => self.offer(out),
+            Err(_) => Err(ReportError::Memory),
+        }
     }
 }

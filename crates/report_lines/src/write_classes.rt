@@ -1,16 +1,16 @@
 //! Writes the lines on classes, their elements, and the uses of private names.
-ghost use Rattle.std.specs.Prelude.{◌≡◌, ◌<◌, ◌≤◌, ◌++◌, length};
+ghost use Rattle.std.specs.Prelude.{◌≡◌, ◌<◌, ◌≤◌, length};
 ghost use Rattle.std.specs.List.{flat_map};
-ghost use Rattle.class_table.specs.Lists.{elements_in, uses_in};
+ghost use Rattle.class_table.specs.Lists.{uses_in};
 ghost use Rattle.class_table.specs.Outward.{parent_class};
-ghost use Rattle.class_table.specs.Seen.{element_seen, use_seen};
+ghost use Rattle.class_table.specs.Seen.{element_seen};
 ghost use Rattle.report_ends.specs.Streams.{WritesLines, numbered_text};
-ghost use Rattle.report_lines.specs.ClassLines.{class_line, element_line, private_use_line, class_lines, all_class_lines};
+ghost use Rattle.report_lines.specs.ClassLines.{element_line, private_use_line, class_lines, all_class_lines};
 ghost use Rattle.report_lines.specs.Rows.{IsRow};
 
 use crate::class_lines::{make_class_line, make_element_line, make_private_use_line};
 use crate::line::Line;
-use class_table::{ClassTable, Element, PrivateIdentifierReference};
+use class_table::{ClassTable, Element};
 use report_ends::{ReportError, Sink};
 use semantic_syntax::{ClassId, ElementId, NodeId};
 use std::collections::BTreeMap;
@@ -20,21 +20,6 @@ fn parent_in(parents: &BTreeMap<ClassId, ClassId>, class: ClassId) -> Option<Cla
     ensures { result ≡ parent_class parents.now.entries class }
 {
     parents.get(&class).copied()
-}
-
-fn write_class_line<K: Sink>(
-    line: &mut Line,
-    classes: &ClassTable<'_>,
-    class: ClassId,
-    node: NodeId,
-    out: &mut K,
-) -> Result<(), ReportError>
-    ensures { WritesLines K.held K.faults K.Offered IsRow out.old out.new
-        (class_line class node (parent_class classes.now.parents class)) result }
-{
-    let parent = parent_in(&classes.parent_ids, class);
-    make_class_line(line, class, node, parent)?;
-    line.offer(out)
 }
 
 fn write_element<K: Sink>(
@@ -76,26 +61,6 @@ fn write_elements<K: Sink>(
     Ok(())
 }
 
-fn write_use<K: Sink>(
-    line: &mut Line,
-    class: ClassId,
-    used: &PrivateIdentifierReference<'_>,
-    out: &mut K,
-) -> Result<(), ReportError>
-    ensures { WritesLines K.held K.faults K.Offered IsRow out.old out.new
-        (private_use_line class (use_seen used.now)) result }
-{
-    make_private_use_line(
-        line,
-        class,
-        used.id,
-        used.name.as_str(),
-        used.span,
-        used.element_ids.as_slice(),
-    )?;
-    line.offer(out)
-}
-
 fn write_uses<K: Sink>(
     line: &mut Line,
     classes: &ClassTable<'_>,
@@ -107,25 +72,17 @@ fn write_uses<K: Sink>(
         (flat_map (private_use_line class) (uses_in classes.now class)) result }
 {
     for used in classes.iter_private_identifiers(class) {
-        write_use(line, class, used, out)?;
+        let made = make_private_use_line(
+            line,
+            class,
+            used.id,
+            used.name.as_str(),
+            used.span,
+            used.element_ids.as_slice(),
+        );
+        line.offer_made(made, out)?;
     }
     Ok(())
-}
-
-// Writes what stands in a class.
-fn write_members<K: Sink>(
-    line: &mut Line,
-    classes: &ClassTable<'_>,
-    class: ClassId,
-    out: &mut K,
-) -> Result<(), ReportError>
-    requires { class < length classes.now.nodes }
-    ensures { WritesLines K.held K.faults K.Offered IsRow out.old out.new
-        (numbered_text (element_line class) 0 (elements_in classes.now class)
-        ++ flat_map (private_use_line class) (uses_in classes.now class)) result }
-{
-    write_elements(line, class, classes.elements_of(class), out)?;
-    write_uses(line, classes, class, out)
 }
 
 fn write_class<K: Sink>(
@@ -139,8 +96,11 @@ fn write_class<K: Sink>(
     ensures { WritesLines K.held K.faults K.Offered IsRow out.old out.new
         (class_lines classes.now (class, node)) result }
 {
-    write_class_line(line, classes, class, node, out)?;
-    write_members(line, classes, class, out)
+    let parent = parent_in(&classes.parent_ids, class);
+    let made = make_class_line(line, class, node, parent);
+    line.offer_made(made, out)?;
+    write_elements(line, class, classes.elements_of(class), out)?;
+    write_uses(line, classes, class, out)
 }
 
 /// Writes the lines of the classes, in the order of their ids, each with its elements and the uses of private names.

@@ -11,13 +11,6 @@ use report_ends::{ReportError, Sink};
 use scoping::Scoping;
 use semantic_syntax::{NodeId, ReferenceId};
 
-fn write_label<K: Sink>(line: &mut Line, node: NodeId, out: &mut K) -> Result<(), ReportError>
-    ensures { WritesLines K.held K.faults K.Offered IsRow out.old out.new (label_line node) result }
-{
-    make_label_line(line, node)?;
-    line.offer(out)
-}
-
 /// Writes the lines of labels that no jump names, by the nodes of their statements.
 pub fn write_labels<K: Sink>(
     line: &mut Line,
@@ -28,7 +21,8 @@ pub fn write_labels<K: Sink>(
         (flat_map label_line labels.now) result }
 {
     for label in labels {
-        write_label(line, *label, out)?;
+        let made = make_label_line(line, *label);
+        line.offer_made(made, out)?;
     }
     Ok(())
 }
@@ -43,8 +37,8 @@ pub fn write_stats<K: Sink>(
     ensures { WritesLines K.held K.faults K.Offered IsRow out.old out.new
         (stats_line nodes scoping.now) result }
 {
-    make_stats_line(line, nodes, scoping)?;
-    line.offer(out)
+    let made = make_stats_line(line, nodes, scoping);
+    line.offer_made(made, out)
 }
 
 // How many references are free.
@@ -72,6 +66,6 @@ pub fn write_made<K: Sink>(
     ensures { WritesLines K.held K.faults K.Offered IsRow out.old out.new
         (made_line nodes scoping.now) result }
 {
-    make_made_line(line, nodes, scoping, free_count(scoping))?;
-    line.offer(out)
+    let made = make_made_line(line, nodes, scoping, free_count(scoping));
+    line.offer_made(made, out)
 }

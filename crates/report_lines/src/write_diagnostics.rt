@@ -7,19 +7,7 @@ ghost use Rattle.report_lines.specs.Rows.{IsRow};
 use crate::diagnostic_line::make_diagnostic_line;
 use crate::line::Line;
 use report_ends::{ReportError, Sink};
-use semantic_diagnostics::{Diagnostic, Diagnostics};
-
-fn write_diagnostic<K: Sink>(
-    line: &mut Line,
-    diagnostic: &Diagnostic,
-    out: &mut K,
-) -> Result<(), ReportError>
-    ensures { WritesLines K.held K.faults K.Offered IsRow out.old out.new
-        (diagnostic_line diagnostic.now) result }
-{
-    make_diagnostic_line(line, diagnostic)?;
-    line.offer(out)
-}
+use semantic_diagnostics::Diagnostics;
 
 /// Writes the lines of the diagnostics.
 pub fn write_diagnostics<K: Sink>(
@@ -31,7 +19,8 @@ pub fn write_diagnostics<K: Sink>(
         (flat_map diagnostic_line diagnostics.now) result }
 {
     for diagnostic in diagnostics.iter() {
-        write_diagnostic(line, diagnostic, out)?;
+        let made = make_diagnostic_line(line, diagnostic);
+        line.offer_made(made, out)?;
     }
     Ok(())
 }

@@ -2,7 +2,6 @@
 ghost use Rattle.std.specs.Prelude.{◌≡◌, ◌<◌, ℕ, [], length, map, unwrap_or};
 ghost use Rattle.std.specs.List.{flat_map};
 ghost use Rattle.std.specs.Str.{encode_utf8_all};
-ghost use Rattle.scoping_rows.specs.Names.{name_of};
 ghost use Rattle.semantic_syntax.specs.Reading.{reference_of};
 ghost use Rattle.report_ends.specs.Streams.{WritesLines, numbered_text};
 ghost use Rattle.report_lines.specs.TableLines.{reference_name, reference_line, free_line, all_reference_lines};
@@ -84,40 +83,14 @@ fn write_named<K: Sink>(
     Ok(())
 }
 
-// Writes the lines of the references.
-fn write_references<K: Sink>(
-    alloc: Global,
-    line: &mut Line,
-    scoping: &Scoping,
-    out: &mut K,
-) -> Result<(), ReportError>
-    ensures { WritesLines K.held K.faults K.Offered IsRow out.old out.new
-        (numbered_text (reference_line scoping.now) 0 scoping.now.references) result }
-{
-    let names = free_names(alloc, scoping)?;
-    write_named(line, scoping, &names, out)
-}
-
-fn write_free<K: Sink>(
-    line: &mut Line,
-    name: Ident<'_>,
-    references: &[ReferenceId],
-    out: &mut K,
-) -> Result<(), ReportError>
-    ensures { WritesLines K.held K.faults K.Offered IsRow out.old out.new
-        (free_line (name_of name.entry, references.now)) result }
-{
-    make_free_line(line, name.as_str(), references)?;
-    line.offer(out)
-}
-
 // Writes the lines of the free references, by name.
 fn write_frees<K: Sink>(line: &mut Line, scoping: &Scoping, out: &mut K) -> Result<(), ReportError>
     ensures { WritesLines K.held K.faults K.Offered IsRow out.old out.new
         (flat_map free_line scoping.now.free) result }
 {
     for (name, references) in scoping.root_unresolved_references().iter() {
-        write_free(line, name, references, out)?;
+        let made = make_free_line(line, name.as_str(), references);
+        line.offer_made(made, out)?;
     }
     Ok(())
 }
@@ -132,6 +105,7 @@ pub fn write_all_references<K: Sink>(
     ensures { WritesLines K.held K.faults K.Offered IsRow out.old out.new
         (all_reference_lines scoping.now) result }
 {
-    write_references(alloc, line, scoping, out)?;
+    let names = free_names(alloc, scoping)?;
+    write_named(line, scoping, &names, out)?;
     write_frees(line, scoping, out)
 }

@@ -1,52 +1,16 @@
 //! Writes the lines on scopes and what they bind.
 ghost use Rattle.std.specs.Prelude.{◌<◌, length, ℕ};
 ghost use Rattle.std.specs.List.{flat_map};
-ghost use Rattle.scoping_rows.specs.Names.{name_of};
 ghost use Rattle.semantic_syntax.specs.Reading.{scope_of};
 ghost use Rattle.report_ends.specs.Streams.{WritesLines, numbered_text};
-ghost use Rattle.report_lines.specs.TableLines.{scope_line, bind_line, scope_lines};
+ghost use Rattle.report_lines.specs.TableLines.{bind_line, scope_lines};
 ghost use Rattle.report_lines.specs.Rows.{IsRow};
 
 use crate::line::Line;
 use crate::table_lines::{make_bind_line, make_scope_line};
 use report_ends::{ReportError, Sink};
 use scoping::{Bindings, Scoping};
-use semantic_syntax::{Ident, ScopeId, SymbolId};
-
-fn write_scope_line<K: Sink>(
-    line: &mut Line,
-    scoping: &Scoping,
-    scope: ScopeId,
-    out: &mut K,
-) -> Result<(), ReportError>
-    requires { scope < length scoping.now.scopes }
-    ensures { WritesLines K.held K.faults K.Offered IsRow out.old out.new
-        (scope_line scope (scope_of scoping.now scope)) result }
-{
-    let parent = scoping.scope_parent_id(scope);
-    make_scope_line(
-        line,
-        scope,
-        parent,
-        scoping.get_node_id(scope),
-        scoping.scope_flags(scope),
-    )?;
-    line.offer(out)
-}
-
-fn write_binding<K: Sink>(
-    line: &mut Line,
-    scope: ScopeId,
-    name: Ident<'_>,
-    symbol: SymbolId,
-    out: &mut K,
-) -> Result<(), ReportError>
-    ensures { WritesLines K.held K.faults K.Offered IsRow out.old out.new
-        (bind_line scope (name_of name.entry, symbol)) result }
-{
-    make_bind_line(line, scope, name.as_str(), symbol)?;
-    line.offer(out)
-}
+use semantic_syntax::ScopeId;
 
 fn write_bindings<K: Sink>(
     line: &mut Line,
@@ -58,7 +22,8 @@ fn write_bindings<K: Sink>(
         (flat_map (bind_line scope) bindings.now) result }
 {
     for (name, symbol) in bindings.iter() {
-        write_binding(line, scope, name, symbol, out)?;
+        let made = make_bind_line(line, scope, name.as_str(), symbol);
+        line.offer_made(made, out)?;
     }
     Ok(())
 }
@@ -73,7 +38,15 @@ fn write_scope<K: Sink>(
     ensures { WritesLines K.held K.faults K.Offered IsRow out.old out.new
         (scope_lines scoping.now scope (scope_of scoping.now scope)) result }
 {
-    write_scope_line(line, scoping, scope, out)?;
+    let parent = scoping.scope_parent_id(scope);
+    let made = make_scope_line(
+        line,
+        scope,
+        parent,
+        scoping.get_node_id(scope),
+        scoping.scope_flags(scope),
+    );
+    line.offer_made(made, out)?;
     write_bindings(line, scope, &scoping.get_bindings(scope), out)
 }
 

@@ -1,9 +1,9 @@
 //! Writes the lines on symbols, their declarations and their uses.
 ghost use Rattle.std.specs.Prelude.{◌<◌, length, ℕ};
 ghost use Rattle.std.specs.List.{flat_map};
-ghost use Rattle.semantic_syntax.specs.Reading.{symbol_of, uses_of};
+ghost use Rattle.semantic_syntax.specs.Reading.{symbol_of};
 ghost use Rattle.report_ends.specs.Streams.{WritesLines, numbered_text};
-ghost use Rattle.report_lines.specs.TableLines.{symbol_line, redeclaration_line, uses_line, declaration_lines, symbol_lines, pure_line, all_symbol_lines};
+ghost use Rattle.report_lines.specs.TableLines.{redeclaration_line, declaration_lines, symbol_lines, pure_line, all_symbol_lines};
 ghost use Rattle.report_lines.specs.Rows.{IsRow};
 
 use crate::line::Line;
@@ -15,41 +15,6 @@ use scoping::Scoping;
 use semantic_syntax::{Redeclaration, SymbolId};
 use std::collections::BTreeSet;
 
-fn write_symbol_line<K: Sink>(
-    line: &mut Line,
-    scoping: &Scoping,
-    symbol: SymbolId,
-    out: &mut K,
-) -> Result<(), ReportError>
-    requires { symbol < length scoping.now.symbols }
-    ensures { WritesLines K.held K.faults K.Offered IsRow out.old out.new
-        (symbol_line symbol (symbol_of scoping.now symbol)) result }
-{
-    make_symbol_line(
-        line,
-        symbol,
-        scoping.symbol_name(symbol),
-        scoping.symbol_scope_id(symbol),
-        scoping.symbol_declaration(symbol),
-        scoping.symbol_span(symbol),
-        scoping.symbol_flags(symbol),
-    )?;
-    line.offer(out)
-}
-
-fn write_redeclaration<K: Sink>(
-    line: &mut Line,
-    symbol: SymbolId,
-    entry: &Redeclaration,
-    out: &mut K,
-) -> Result<(), ReportError>
-    ensures { WritesLines K.held K.faults K.Offered IsRow out.old out.new
-        (redeclaration_line symbol entry.now) result }
-{
-    make_redeclaration_line(line, symbol, entry)?;
-    line.offer(out)
-}
-
 fn write_redeclarations<K: Sink>(
     line: &mut Line,
     symbol: SymbolId,
@@ -60,23 +25,10 @@ fn write_redeclarations<K: Sink>(
         (flat_map (redeclaration_line symbol) entries.now) result }
 {
     for entry in entries {
-        write_redeclaration(line, symbol, entry, out)?;
+        let made = make_redeclaration_line(line, symbol, entry);
+        line.offer_made(made, out)?;
     }
     Ok(())
-}
-
-fn write_uses<K: Sink>(
-    line: &mut Line,
-    scoping: &Scoping,
-    symbol: SymbolId,
-    out: &mut K,
-) -> Result<(), ReportError>
-    requires { symbol < length scoping.now.symbols }
-    ensures { WritesLines K.held K.faults K.Offered IsRow out.old out.new
-        (uses_line symbol (uses_of scoping.now symbol)) result }
-{
-    make_uses_line(line, symbol, scoping.get_resolved_reference_ids(symbol))?;
-    line.offer(out)
 }
 
 fn write_declarations<K: Sink>(
@@ -89,7 +41,16 @@ fn write_declarations<K: Sink>(
     ensures { WritesLines K.held K.faults K.Offered IsRow out.old out.new
         (declaration_lines symbol (symbol_of scoping.now symbol)) result }
 {
-    write_symbol_line(line, scoping, symbol, out)?;
+    let made = make_symbol_line(
+        line,
+        symbol,
+        scoping.symbol_name(symbol),
+        scoping.symbol_scope_id(symbol),
+        scoping.symbol_declaration(symbol),
+        scoping.symbol_span(symbol),
+        scoping.symbol_flags(symbol),
+    );
+    line.offer_made(made, out)?;
     write_redeclarations(line, symbol, scoping.symbol_redeclarations(symbol), out)
 }
 
@@ -104,7 +65,8 @@ fn write_symbol<K: Sink>(
         (symbol_lines scoping.now symbol (symbol_of scoping.now symbol)) result }
 {
     write_declarations(line, scoping, symbol, out)?;
-    write_uses(line, scoping, symbol, out)
+    let made = make_uses_line(line, symbol, scoping.get_resolved_reference_ids(symbol));
+    line.offer_made(made, out)
 }
 
 // Writes the lines of the symbols, each with its declarations and its uses.
@@ -123,14 +85,6 @@ fn write_symbols<K: Sink>(
     Ok(())
 }
 
-fn write_pure<K: Sink>(line: &mut Line, symbol: SymbolId, out: &mut K) -> Result<(), ReportError>
-    ensures { WritesLines K.held K.faults K.Offered IsRow out.old out.new
-        (pure_line symbol) result }
-{
-    make_pure_line(line, symbol)?;
-    line.offer(out)
-}
-
 // Writes the lines of the symbols without side effects.
 fn write_pures<K: Sink>(
     line: &mut Line,
@@ -141,7 +95,8 @@ fn write_pures<K: Sink>(
         (flat_map pure_line symbols.now.keys) result }
 {
     for symbol in symbols {
-        write_pure(line, *symbol, out)?;
+        let made = make_pure_line(line, *symbol);
+        line.offer_made(made, out)?;
     }
     Ok(())
 }

@@ -1,7 +1,6 @@
 //! Writes the lines on the tables.
-ghost use Rattle.std.specs.Prelude.{◌++◌};
 ghost use Rattle.report_ends.specs.Streams.{WritesLines};
-ghost use Rattle.report_lines.specs.TableLines.{all_symbol_lines, all_reference_lines, table_lines};
+ghost use Rattle.report_lines.specs.TableLines.{table_lines};
 ghost use Rattle.report_lines.specs.Rows.{IsRow};
 
 use crate::line::Line;
@@ -11,19 +10,6 @@ use crate::write_symbols::write_all_symbols;
 use report_ends::{ReportError, Sink};
 use scoping::Scoping;
 use std::alloc::Global;
-
-fn write_symbols_and_references<K: Sink>(
-    alloc: Global,
-    line: &mut Line,
-    scoping: &Scoping,
-    out: &mut K,
-) -> Result<(), ReportError>
-    ensures { WritesLines K.held K.faults K.Offered IsRow out.old out.new
-        (all_symbol_lines scoping.now ++ all_reference_lines scoping.now) result }
-{
-    write_all_symbols(line, scoping, out)?;
-    write_all_references(alloc, line, scoping, out)
-}
 
 /// Writes the lines of the tables: scopes with what they bind, symbols with their declarations and uses, symbols without
 /// side effects, references, and free references by name.
@@ -37,5 +23,6 @@ pub fn write_tables<K: Sink>(
         (table_lines scoping.now) result }
 {
     write_scopes(line, scoping, out)?;
-    write_symbols_and_references(alloc, line, scoping, out)
+    write_all_symbols(line, scoping, out)?;
+    write_all_references(alloc, line, scoping, out)
 }

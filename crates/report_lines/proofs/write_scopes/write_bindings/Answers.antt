@@ -1,10 +1,18 @@
+use Rattle.std.proofs.Common.{ap, refl}
 use Rattle.scoping_rows.specs.Names.{pair_of}
-use Rattle.report_lines.specs.TableLines.{bind_line}
+use Rattle.report_lines.specs.Rows as row
+use Rattle.report_lines.specs.TableLines.{bind_text, bind_line}
 use Rattle.report_lines.proofs.Items.{items_go_on, items_fail}
+use Rattle.report_lines.proofs.Utf8.{same_characters}
+use Rattle.report_lines.proofs.Made.{writes_made}
 use Rattle.report_lines.proofs.write_scopes.write_bindings.Goals as goal
 
 pub loop-name-preserved : goal.loop-name-preserved
-loop-name-preserved g c = items_go_on g.K.Sink.held g.K.Sink.faults pair_of (bind_line c.args.scope) _ _ _ _ _ _ _ _ _ c.loop-name.invariant c.in-Some.is c.next.ensures.steps c.in_ok-write_binding.ensures
+loop-name-preserved g c =
+    items_go_on g.K.Sink.held g.K.Sink.faults pair_of (bind_line c.args.scope) _ _ _ _ _ _ _ _ _ c.loop-name.invariant c.in-Some.is c.next.ensures.steps
+    (writes_made g.K.Sink.held g.K.Sink.faults _ _ _ _ _ _ _ c.in_ok-offer_made.ensures c.make_bind_line-made.ensures (ap (λ bytes. bind_text c.args.scope bytes c.in-Some.symbol) (same_characters _ _ c.as_str.utf8 c.as_str.ensures)) (row.binding _ _, refl))
 
-pub returns-in_err-write_binding : goal.returns-in_err-write_binding
-returns-in_err-write_binding g c = items_fail g.K.Sink.held g.K.Sink.faults pair_of (bind_line c.args.scope) _ _ _ _ _ _ _ _ _ c.from_residual.result c.loop-name.invariant c.in-Some.is c.next.ensures.steps c.in_err-write_binding.ensures c.from_residual.ensures.1
+pub returns-in_err-offer_made : goal.returns-in_err-offer_made
+returns-in_err-offer_made g c =
+    items_fail g.K.Sink.held g.K.Sink.faults pair_of (bind_line c.args.scope) _ _ _ _ _ _ _ _ _ c.from_residual.result c.loop-name.invariant c.in-Some.is c.next.ensures.steps
+    (writes_made g.K.Sink.held g.K.Sink.faults _ _ _ _ _ _ _ c.in_err-offer_made.ensures c.make_bind_line-made.ensures (ap (λ bytes. bind_text c.args.scope bytes c.in-Some.symbol) (same_characters _ _ c.as_str.utf8 c.as_str.ensures)) (row.binding _ _, refl)) c.from_residual.ensures.1

@@ -1,5 +1,0 @@
-use Rattle.report_ends.proofs.Stages.{lacks_memory_at_once}
-use Rattle.report_lines.proofs.write_references.write_references.Goals as goal
-
-pub returns-in_err-names : goal.returns-in_err-names
-returns-in_err-names g c = lacks_memory_at_once g.K.Sink.held g.K.Sink.faults c.args.out.now _ c.from_residual.result c.from_residual.ensures.1
