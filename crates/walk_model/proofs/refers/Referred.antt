@@ -209,5 +209,5 @@ refs_noted final es awaiting stack seen fs rs w p g k h r = by (is kind.Identifi
       where
         number : n ≡ 0 + length (map (λ (q : Occurrence). q.node) rs)
         number = omega (arith, count, length_nodes rs)
-    by true e (inr q) = let z : false ≡ true = rw q scope_of_place e in absurd cc
+    by true e (inr q) = let z : false ≡ true = rw q at e in absurd cc
     by false e v = r
