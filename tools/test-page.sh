@@ -15,11 +15,7 @@ cd "$here/analyse/test"
 bolgwyr="$here/../bin/bolgwyr"
 "$bolgwyr" scopes shown.mjs -o "$folder/shown.html"
 # The page of a report that has lines of every kind.
-mkdir -p "$folder/programs"
-cp stored-report.sh faulty.report "$folder/programs"
-mv "$folder/programs/stored-report.sh" "$folder/programs/report_main"
-ln -sf "${BOLGWYR_PROGRAMS:-$here/../crates/tools_main/out}/tools_main" "$folder/programs/tools_main"
-BOLGWYR_PROGRAMS="$folder/programs" "$bolgwyr" scopes faulty.ts -o "$folder/faulty.html"
+BOLGWYR_REPORT=./stored-report.sh "$bolgwyr" scopes faulty.ts -o "$folder/faulty.html"
 "$bolgwyr" scopes renamed.ts -o "$folder/renamed.html"
 "$bolgwyr" scopes property.ts -o "$folder/property.html"
 (cd project && "$bolgwyr" scopes --project main.mjs -o "$folder/project.html")
