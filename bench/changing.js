@@ -2,7 +2,7 @@
 'use strict';
 // Processor time of the tree of a file of 11,000 lines after a change of one name, as a whole and anew only where it changed, and of
 // a fixed loop, in turn; the middle and the least of all rounds in milliseconds.
-// usage: bench/changing.js [ROUNDS]
+// usage: bench/changing.js [ROUNDS [ENDING]]      (ENDING is that of a file's name, `mjs` or, for TypeScript, `mts`)
 
 const path = require('path');
 const { execFileSync } = require('child_process');
@@ -26,9 +26,9 @@ function processorTime(call) {
   return (user + system) / 1000;
 }
 
-function main([rounds = 15]) {
+function main([rounds = 15, ending = 'mjs']) {
   const text = execFileSync(process.execPath, [SOURCE], { encoding: 'utf8', maxBuffer: Infinity });
-  const options = { filename: 'long.mjs' };
+  const options = { filename: `long.${ending}` };
   const changing = new ChangingTree();
   const times = { loop: [], whole: [], changed: [] };
   for (let round = 0; round < Number(rounds) + WARMING; round += 1) {

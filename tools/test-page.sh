@@ -13,13 +13,14 @@ else
 fi
 cd "$here/analyse/test"
 bolgwyr="$here/../bin/bolgwyr"
-"$bolgwyr" scopes shown.mjs -o "$folder/shown.html"
-# The page of a report that has lines of every kind.
+# A page is made by the one program that has all tools; the one with the report alone isn't asked.
+"$bolgwyr" check shown.mjs >/dev/null || true
 mkdir -p "$folder/programs"
-cp stored-report.sh faulty.report "$folder/programs"
-mv "$folder/programs/stored-report.sh" "$folder/programs/report_main"
-ln -sf "${BOLGWYR_PROGRAMS:-$here/../crates/tools_main/out}/tools_main" "$folder/programs/tools_main"
-BOLGWYR_PROGRAMS="$folder/programs" "$bolgwyr" scopes faulty.ts -o "$folder/faulty.html"
+ln -sf "$("$here/programs/ready.sh" tools_main | cut -d ' ' -f 2-)" "$folder/programs/tools_main"
+ln -sf /bin/false "$folder/programs/report_main"
+BOLGWYR_PROGRAMS="$folder/programs" "$bolgwyr" scopes shown.mjs -o "$folder/shown.html"
+# The page of a report that has lines of every kind.
+BOLGWYR_REPORT=./stored-report.sh "$bolgwyr" scopes faulty.ts -o "$folder/faulty.html"
 "$bolgwyr" scopes renamed.ts -o "$folder/renamed.html"
 "$bolgwyr" scopes property.ts -o "$folder/property.html"
 (cd project && "$bolgwyr" scopes --project main.mjs -o "$folder/project.html")

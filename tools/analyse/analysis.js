@@ -40,14 +40,20 @@ function askAbout(tree, tool, words) {
   }
 }
 
-// The tree of a text and the text of its report, with the milliseconds of each part. Settings: `file`, `words` for the
-// report program, `tree` where the text is a tree already, `parser` and `goal`.
+// The tree of a text. Settings: `file`, `tree` where the text is a tree already, `parser`, `goal` and `clock`.
+function textTree(text, settings) {
+  const tree = settings.tree ? readTree(text) : convertText(text, settings);
+  checkSize(tree.json.length, 'its tree');
+  return tree;
+}
+
+// The tree and the text of its report, with the milliseconds of each part. Settings are those of `textTree`, and `words` for the report
+// program.
 function analyseText(text, settings) {
   const clock = { parser: 0, conversion: 0 };
   const started = performance.now();
-  const tree = settings.tree ? readTree(text) : convertText(text, { ...settings, clock });
+  const tree = textTree(text, { ...settings, clock });
   const converted = performance.now();
-  checkSize(tree.json.length, 'its tree');
   const { stdout, status } = askAbout(tree, 'report', settings.words);
   const times = {
     parser: clock.parser,
@@ -66,10 +72,9 @@ function analyseFile(file, settings) {
   return { ...found, times: { reading, ...found.times } };
 }
 
-// The same with the report read, and the places of its nodes.
-function readAnalysis(analysis) {
-  const { file, tree, words } = analysis;
-  const report = parseReport(analysis.bytes.toString('utf8'));
+// What is asked of an analysis: the report, and the places of its nodes. `bytes` is the report's text, which was asked with `words`.
+function readAnalysis({ file, tree, words, bytes }) {
+  const report = parseReport(bytes.toString('utf8'));
   const { source, goal, lang, comments } = tree.value;
   return {
     file,
@@ -84,4 +89,4 @@ function readAnalysis(analysis) {
   };
 }
 
-module.exports = { analyseFile, analyseText, askAbout, explain, readAnalysis };
+module.exports = { analyseFile, analyseText, askAbout, explain, readAnalysis, textTree };

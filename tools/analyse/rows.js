@@ -8,6 +8,7 @@ const COMMA = 0x2c;
 const ZERO = 0x30;
 const NINE = 0x39;
 
+const MARKS = 6; // the field of a row
 const NOTHING_MORE = '"",[]]'.length; // a row's end without text or marks
 
 // The place of the next quote.
@@ -96,13 +97,31 @@ class Rows {
     return this.parents[node] === -1 ? null : this.parents[node];
   }
 
+  // The row that holds a place of the text.
+  rowOver(place) {
+    return lastAtMost(this.places, this.count, place);
+  }
+
+  // The nodes that have a mark. A text may have the same letters.
+  marked(mark) {
+    const word = `"${mark}"`;
+    const nodes = [];
+    for (let place = this.json.indexOf(word); place !== -1; place = this.json.indexOf(word, place + 1)) {
+      const node = this.rowOver(place);
+      if (place < this.places[this.count] && this.at(node)[MARKS].includes(mark) && nodes[nodes.length - 1] !== node) {
+        nodes.push(node);
+      }
+    }
+    return nodes;
+  }
+
   // The node of a kind that begins at this byte of the source. Most are looked for in order. No string has such a text in it, since
   // its quotes would stand behind backslashes.
   nodeAt(kind, start) {
     const text = `"${kind}",${start},`;
     const behind = this.json.indexOf(text, this.sought);
     this.sought = behind === -1 ? this.json.indexOf(text) : behind;
-    return lastAtMost(this.places, this.count, this.sought);
+    return this.rowOver(this.sought);
   }
 }
 

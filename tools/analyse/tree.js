@@ -114,6 +114,15 @@ function convertText(text, { file, parser, goal, clock = {}, changing = require(
 
 // A tree in any form of JSON, which is read as a whole.
 class GivenTree extends Tree {
+  get head() {
+    return this.value;
+  }
+
+  // In the converter's form.
+  get rows() {
+    return this.kept('rows', () => new Rows(Buffer.from(JSON.stringify({ format: 1, rows: this.value.rows }))));
+  }
+
   row(node) {
     return rowOf(this.value.rows[node]);
   }

@@ -103,9 +103,8 @@ function jsxFactory(text) {
   return /@jsx\s+([\p{ID_Start}$_][\p{ID_Continue}$]*)/u.exec(text)?.[1] ?? 'React';
 }
 
-function hasJsx({ tree }) {
-  return tree.value.rows.some(([, , kind]) => kind.startsWith('JSX'));
-}
+// No string has such a text in it, since its quotes would stand behind backslashes.
+const hasJsx = ({ tree }) => tree.rows.json.includes('","JSX');
 
 function isToldImport(symbol, answers) {
   const factory = answers.kept('factory', () => jsxFactory(answers.text));
@@ -122,18 +121,18 @@ const TOLD = new Map([
   ['type parameter', (symbol, { tree }) => tree.row(symbol.node).kind !== 'TSMappedType'],
 ]);
 
-// Of each node, whether it or one around it is only declared here and stands for something elsewhere.
-function ambientNodes(tree) {
-  const ambient = [];
-  tree.value.rows.forEach((fields, node) => {
-    ambient[node] = fields[6].includes('declare') || (node > 0 && ambient[tree.parent(node)]);
-  });
-  return ambient;
-}
-
+// Whether a symbol or what stands around it is only declared here and stands for something elsewhere.
 function isAmbient(symbol, answers) {
   const { tree } = answers;
-  return tree.isTyped && answers.kept('ambient', () => ambientNodes(tree))[symbol.node];
+  const ambient = tree.isTyped ? answers.kept('ambient', () => new Set(tree.rows.marked('declare'))) : null;
+  if (ambient === null || ambient.size === 0) {
+    return false;
+  }
+  let node = symbol.node;
+  while (node !== null && !ambient.has(node)) {
+    node = tree.parent(node);
+  }
+  return node !== null;
 }
 
 function isLeftOut(symbol, answers, options) {

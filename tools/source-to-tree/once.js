@@ -2,7 +2,7 @@
 // One conversion of the text of a source file to the JSON of its tree, on the stack that there is.
 
 const { Refusal } = require('./refusal');
-const { ByteOffsets } = require('./spans');
+const { ByteOffsets, MARK_BYTES } = require('./spans');
 const { TreeWriter } = require('./writer');
 const { Annotations } = require('./annotations');
 const { lineEndFrom } = require('./trivia');
@@ -23,7 +23,7 @@ function commentTexts(comments, offsets) {
 
 const HEAD = 128; // bytes of a tree before its rows, without the comments
 const COMMENT = 32; // bytes of a comment
-const roomFor = (comments) => HEAD + (comments === undefined ? 0 : COMMENT * comments.length);
+const roomFor = (comments) => HEAD + COMMENT * comments;
 
 // JavaScript with elements is JSX.
 const languageIn = (lang, writer) => (lang === 'js' && writer.hasJsx ? 'jsx' : lang);
@@ -31,8 +31,8 @@ const languageIn = (lang, writer) => (lang === 'js' && writer.hasJsx ? 'jsx' : l
 // The tree's text, the source, what it was read as and what gives the places of the rows. Null where the text was read as a script and is
 // found to be a module.
 function write(way, parsed, { source, text, lang, goal }) {
-  const offsets = new ByteOffsets(text, source.startsWith(MARK));
-  const writer = new TreeWriter(offsets, lang, roomFor(parsed.comments));
+  const offsets = new ByteOffsets(text, source.startsWith(MARK) ? MARK_BYTES : 0);
+  const writer = new TreeWriter(offsets, lang, roomFor(parsed.comments === undefined ? 0 : parsed.comments.length));
   writer.open('root', 'Program', 0, text.length);
   hashbang(writer, text);
   const comments = way.write(parsed, text, writer, new Annotations(text));

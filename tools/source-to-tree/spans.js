@@ -24,14 +24,14 @@ function blocksOf(text) {
   return blocks;
 }
 
-// From offsets in the text, which has lost its byte order mark if marked, to bytes of the source.
+// From offsets in the text, before which so many bytes stand in the source, such as a byte order mark, to bytes of the source.
 class ByteOffsets {
-  constructor(text, marked) {
+  constructor(text, bytesBefore) {
     this.text = text;
-    this.shift = marked ? MARK_BYTES : 0;
+    this.shift = bytesBefore;
     this.last = text.length;
     this.blocks = Buffer.byteLength(text, 'utf8') === text.length ? null : blocksOf(text);
-    this.isAscii = this.blocks === null && !marked;
+    this.isAscii = this.blocks === null && bytesBefore === 0;
   }
 
   at(offset) {
@@ -49,4 +49,4 @@ class ByteOffsets {
   }
 }
 
-module.exports = { ByteOffsets };
+module.exports = { ByteOffsets, MARK_BYTES };

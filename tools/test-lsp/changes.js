@@ -89,16 +89,24 @@ class Editor {
   }
 }
 
-async function tryChanges(editor) {
+// `broken` is what its parser says of a text that ends too early.
+async function tryChanges(editor, broken) {
   expect('diagnostics at first', await editor.found(), ["0:4-0:5 1 no-unused: variable 'a' is never used tag 1"]);
   editor.change({ text: 'let b;\nuse(b);\n' });
   expect('after a change of the whole', await editor.found(), ["1:0-1:3 1 no-undeclared: 'use' is not declared"]);
   editor.change({ range: range('1:0', '1:3'), text: 'let c =' }, { range: range('0:0', '0:0'), text: '// one\n' });
   expect('after changes of ranges', await editor.found(), ["2:4-2:5 1 no-unused: variable 'c' is never used tag 1"]);
   editor.change({ range: range('2:9', '90:0'), text: '\n' });
-  expect('after a change that breaks it', await editor.found(), ['3:0-3:0 1 syntax: Unexpected token']);
+  expect('after a change that breaks it', await editor.found(), [`3:0-3:0 1 syntax: ${broken}`]);
   editor.change({ range: range('2:0', '3:0'), text: '' });
   expect('after a change that mends it', await editor.found(), ["1:4-1:5 1 no-unused: variable 'b' is never used tag 1"]);
+}
+
+// The same in TypeScript.
+async function tryTyped(client, folder) {
+  const uri = uriOf(folder, 'changed.mts');
+  client.open(uri, 'let a;\n', { languageId: 'typescript' });
+  await tryChanges(new Editor(client, uri), "')' expected.");
 }
 
 // Answers that a change or the client makes void.
@@ -186,7 +194,8 @@ async function tryAllChanges(folder) {
   const uri = uriOf(folder, 'changed.mjs');
   client.open(uri, 'let a;\n');
   const editor = new Editor(client, uri);
-  await tryChanges(editor);
+  await tryChanges(editor, 'Unexpected token');
+  await tryTyped(client, folder);
   await tryVoid(editor);
   await tryClose(editor);
   await trySettings(folder, client);

@@ -2,7 +2,7 @@
 // References and scopes of eslint-scope, in the same terms as the analyser's.
 
 const { load } = require('../source-to-tree/load');
-const { ByteOffsets } = require('../source-to-tree/spans');
+const { ByteOffsets, MARK_BYTES } = require('../source-to-tree/spans');
 
 // eslint-scope knows no node for parentheses, so the text is parsed without them.
 function analyse(text, goal) {
@@ -15,7 +15,7 @@ class EslintScopes {
   constructor(source, goal) {
     const marked = source.startsWith('\ufeff');
     const text = marked ? source.slice(1) : source;
-    this.offsets = new ByteOffsets(text, marked);
+    this.offsets = new ByteOffsets(text, marked ? MARK_BYTES : 0);
     this.manager = analyse(text, goal);
   }
 

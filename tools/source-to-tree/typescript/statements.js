@@ -7,7 +7,7 @@ const { skipTrivia } = require('../trivia');
 const { visit, each, plain, byKind, marksOf } = require('./visit');
 const { modifier, modifierMarks } = require('./modifiers');
 
-const isDirective = (c, node) => node.kind === c.kinds.ExpressionStatement && node.expression.kind === c.kinds.StringLiteral;
+const isDirective = (kinds, node) => node.kind === kinds.ExpressionStatement && node.expression.kind === kinds.StringLiteral;
 
 function directive(c, role, node) {
   const literal = node.expression;
@@ -19,7 +19,7 @@ function directive(c, role, node) {
 // The statements of a program, function or module, its directives first.
 visit.body = (c, statements) => {
   let at = 0;
-  while (at < statements.length && isDirective(c, statements[at])) directive(c, 'directives', statements[at++]);
+  while (at < statements.length && isDirective(c.kinds, statements[at])) directive(c, 'directives', statements[at++]);
   for (; at < statements.length; at++) visit.statement(c, 'body', statements[at]);
 };
 
@@ -168,4 +168,4 @@ visit.statement = (c, role, node) => {
   else declaration(c, role, node, c.start(node));
 };
 
-module.exports = { STATEMENTS, DECLARATIONS };
+module.exports = { STATEMENTS, DECLARATIONS, isDirective };

@@ -64,4 +64,12 @@ function write(parsed, text, writer, annotations) {
   return commentsOf(text, conversion.hidden, conversion.afterHashbang);
 }
 
-module.exports = { module: 'typescript', parsersIn: (folder) => parsersFor('typescript', folder), read, write };
+module.exports = {
+  module: 'typescript',
+  parsersIn: (folder) => parsersFor('typescript', folder),
+  read,
+  write,
+  parse,
+  isRefused,
+  firstOutside,
+};
