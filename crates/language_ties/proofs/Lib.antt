@@ -14,5 +14,7 @@ pub mod symbols
 pub mod block_functions
 pub mod own_names
 pub mod clear
+pub mod caught
 pub mod agree
 pub mod headers
+pub mod tangled

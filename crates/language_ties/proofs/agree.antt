@@ -9,7 +9,10 @@ pub mod FunctionKinds
 pub mod Identifiers
 pub mod KnownBounds
 pub mod Answers
+pub mod PlaceAgreement
+pub mod SeenPlaces
 pub mod ScopeAnswers
+pub mod ClauseBlocks
 pub mod Agreeing
 pub mod AgreeingUses
 pub mod Differing

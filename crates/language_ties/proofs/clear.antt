@@ -1,5 +1,6 @@
 -- Which names keep clear.
 pub mod LexicalNames
 pub mod SingleNames
+pub mod ParameterPlaces
 pub mod PassedScopes
 pub mod UnclashedNames

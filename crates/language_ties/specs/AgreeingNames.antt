@@ -22,20 +22,24 @@ abbrev pub has_none : List Environment → Bool
 has_none [] = true
 has_none (e ∷ es) = false
 
--- bound by one environment alone, or as the declaration of a class, which is bound inside it, too: by no function that has a variable beside its block's, nor as the body of an `if`; and by no catch clause
+-- bound by one environment alone, or as the declaration of a class, which is bound inside it, too: by no function that has a variable beside its block's, nor as the body of an `if`
 abbrev pub is_declared_plainly : Bound → Bool
 is_declared_plainly b =
     (has_none b.also || is_bound_as bound.Lexical b)
-    && (not (is_made_for environment.Catch b.environment || (is_made_for environment.Class b.environment || is_bound_as bound.CatchName b))
-    && not (is_bound_as bound.Function b && is_made_for environment.IfBody b.environment))
+    && (not (is_made_for environment.Class b.environment) && not (is_bound_as bound.Function b && is_made_for environment.IfBody b.environment))
 
 -- so, or as the own name of a function or class expression
 abbrev pub is_plain : Bound → Bool
 is_plain b = is_bound_as bound.OwnName b || is_declared_plainly b
 
--- the name is bound only so: by `var`, `let`, `const`, imports, classes, functions without a variable beside, as a parameter, and as the own name of an expression
-abbrev pub IsPlainName : Tree → Name → Type 0
-IsPlainName p name = (b : Bound) → Among b (written p.source_type (steps p)) → b.name ≡ name → is_plain b ≡ true
+-- the name is bound only so: by `var`, `let`, `const`, imports, classes, functions without a variable beside, as a parameter, as the own name of an expression, and by catch clauses
+abbrev pub IsBoundPlainly : Tree → Name → Type 0
+IsBoundPlainly p name = (b : Bound) → Among b (written p.source_type (steps p)) → b.name ≡ name → is_plain b ≡ true
+
+-- the name is bound plainly, and no `var` of it passes a clause whose plain parameter it is (B.3.4)
+pub record IsPlainName (p : Tree) (name : Name) : Type 0 where
+  pub each : IsBoundPlainly p name
+  pub unpassed : (b c : Bound) → Among b (written p.source_type (steps p)) → Among c (written p.source_type (steps p)) → b.name ≡ name → c.name ≡ name → is_bound_as bound.CatchName b ≡ true → is_bound_as bound.Var c ≡ true → Among b.environment c.passed → ⊥
 
 -- no `with` holds what binds the name
 abbrev pub IsBoundOutsideWith : Tree → Name → Type 0

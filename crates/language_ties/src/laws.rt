@@ -5,7 +5,8 @@ ghost use Rattle.semantic_tree.specs.Faults.{first_fault};
 ghost use Rattle.semantic_tree.specs.Tree.{Tree, IsNumbered};
 ghost use Rattle.semantic_model.specs.Event.{declarations, events};
 ghost use Rattle.semantic_model.specs.Step.{steps};
-ghost use Rattle.language_ties.specs.AgreeingNames.{AgreesApart, AgreesOutsideWith, AllStandApart, IsBoundOutsideWith, IsPlainName, IsReadOutsideWith};
+ghost use Rattle.tangle_model.specs.Tangled.{tangle_reasons};
+ghost use Rattle.language_ties.specs.AgreeingNames.{AgreesApart, AgreesOutsideWith, AllStandApart, IsBoundOutsideWith, IsBoundPlainly, IsPlainName, IsReadOutsideWith};
 ghost use Rattle.language_ties.specs.Agreement.{differing};
 ghost use Rattle.language_ties.specs.ClearNames.{IsBoundOnce, StaysInside};
 ghost use Rattle.language_ties.specs.EarlyErrors.{has_clash};
@@ -94,9 +95,10 @@ pub fn names_keep_clear()
 {}
 
 /// Tables and language agree on a name of which no `var` clashes, and which the program binds by `var`, `let`, `const`, imports,
-/// classes, functions, parameters and own names of expressions alone, all outside of `with`, by no function in a block of sloppy
-/// code that has a variable beside, and by none that is the body of an `if`: each reference is tied to the one symbol of all by
-/// which the innermost environment binds the name that binds it at all, and free where none does, in headers of functions, too.
+/// classes, functions, parameters, own names of expressions and catch clauses alone, all outside of `with`, by no function in a
+/// block of sloppy code that has a variable beside, by none that is the body of an `if`, and by no plain catch name whose clause a
+/// `var` of the name passes: each reference is tied to the one symbol of all by which the innermost environment binds the name
+/// that binds it at all, and free where none does, in headers of functions and clauses, too.
 /// Left out are references in a `with`, and those among parameters without an expression of a function that binds the name, which
 /// no source has: where computed keys are marked, none stands so (`references_stand_in_expressions`).
 pub fn plain_names_agree()
@@ -118,4 +120,15 @@ pub fn plain_names_agree()
 pub fn references_stand_in_expressions()
     ensures { (p : Tree) (name : Name) → first_fault p ≡ None → is_ecmascript p ≡ true
         → keys_are_marked p.root.children ≡ true → IsReadOutsideWith p name → AllStandApart p name }
+{}
+
+/// Of a name that isn't tangled, and that the program binds so, tables and language agree on each reference. That it isn't
+/// tangled says that no reference of it stands in a `with`, that no `var` of it passes a clause whose plain parameter it is, and
+/// that it isn't `arguments`. That keys are marked is left to the program: each source has it so.
+pub fn untangled_names_agree()
+    ensures { (p : Tree) (name : Name) → first_fault p ≡ None → is_ecmascript p ≡ true
+        → IsNumbered p.root
+        → keys_are_marked p.root.children ≡ true → tangle_reasons p name ≡ []
+        → IsBoundOutsideWith p name → IsBoundPlainly p name → has_clash p name ≡ false
+        → differing p name ≡ [] }
 {}

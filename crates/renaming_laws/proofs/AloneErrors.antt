@@ -13,11 +13,12 @@ use Rattle.check_model.specs.DiagnosticsOf.{diagnostics_of}
 use Rattle.rename_model.specs.Alone.{BelongsTo, IsUnused}
 use Rattle.rename_model.specs.Refusal.{first_fixed, rename}
 use Rattle.rename_model.specs.Renamed.{bears_name}
+use Rattle.rename_model.specs.WithName.{sheds}
 use Rattle.rename_model.proofs.Refusals.{ends_renamed, none_means_free}
 use Rattle.swapped_checks.specs.RuleWords.{is_rule_word}
-use Rattle.swapped_checks.specs.SwappedPrograms.{holds_within, is_other_string}
+use Rattle.swapped_checks.specs.SwappedPrograms.{holds_within, is_other_string, keeps_prototype}
 use Rattle.swapped_checks.specs.SwappedRows.{AreToldAgain}
-use Rattle.swapped_checks.proofs.ToldPrograms.{swapped_told}
+use Rattle.swapped_checks.proofs.SwappedTold.{swapped_told, written_told}
 use Rattle.renaming_laws.specs.WrittenOut.{written_out}
 use Rattle.renaming_laws.proofs.AloneConflicts.{is_swapped}
 
@@ -28,3 +29,11 @@ module _ (p : Tree) (faultless : first_fault p ≡ None) (numbered : IsNumbered 
       let free : first_fixed (exported_names (steps p)) (bears_name (analysis_of p) s) (steps p) ≡ None = none_means_free p s none in
       let swapped : q ≡ swapped_tree y.name new p = is ∙ is_swapped p faultless numbered s y there new free alone unused ∙ ap (swapped_tree y.name new) written in
       subst (λ t. AreToldAgain (swap y.name new) (diagnostics_of checks p) (diagnostics_of checks t)) (sym swapped) (swapped_told y.name new old fresh checks p faultless strings)
+
+  -- the same where properties in short had the symbol as their value
+  pub alone_told_out : (q : Tree) (checks : Bool) → is_rule_word y.name ≡ false → is_rule_word new ≡ false → holds_within (is_other_string y.name new) p.root ≡ true → BelongsTo p s y.name → IsUnused p new → holds_within (keeps_prototype (sheds (bears_name (analysis_of p) s))) p.root ≡ true → rename p s new ≡ Ok q → AreToldAgain (swap y.name new) (diagnostics_of checks p) (diagnostics_of checks q)
+  alone_told_out q checks old fresh strings alone unused keeps e =
+      let (bad, none, same, is) = ends_renamed p s new q e in
+      let free : first_fixed (exported_names (steps p)) (bears_name (analysis_of p) s) (steps p) ≡ None = none_means_free p s none in
+      let swapped : q ≡ swapped_tree y.name new (written_out p s) = is ∙ is_swapped p faultless numbered s y there new free alone unused in
+      subst (λ t. AreToldAgain (swap y.name new) (diagnostics_of checks p) (diagnostics_of checks t)) (sym swapped) (written_told y.name new (sheds (bears_name (analysis_of p) s)) old fresh checks p faultless strings keeps)

@@ -132,16 +132,16 @@ module _ (p : Tree) (faultless : first_fault p ≡ None) (numbered : IsNumbered 
   abbrev chosen_here : ℕ → Bool
   chosen_here = bears_name (analysis_of p) s
 
-  abbrev q : Tree
+  abbrev pub q : Tree
   q = program_renamed p (analysis_of p) s new
 
-  abbrev shed : Node → Marks
+  abbrev pub shed : Node → Marks
   shed = without_where (sheds chosen_here) mark.Shorthand
 
-  abbrev unmarked : Tree
+  abbrev pub unmarked : Tree
   unmarked = unmarked_tree (sheds chosen_here) mark.Shorthand p
 
-  is_program : kind.Program ≡ p.root.kind
+  pub is_program : kind.Program ≡ p.root.kind
   is_program = sym (has_form p faultless).root
 
   module _ (free : first_fixed (exported_names (steps p)) (bears_name (analysis_of p) s) (steps p) ≡ None) where
@@ -170,10 +170,10 @@ module _ (p : Tree) (faultless : first_fault p ≡ None) (numbered : IsNumbered 
 
     -- ---- names with signs
 
-    abbrev setting : Setting
+    abbrev pub setting : Setting
     setting = setting_below Elsewhere role.Root p.root.kind
 
-    abbrev signed_tree : Tree
+    abbrev pub signed_tree : Tree
     signed_tree = record unmarked { root = record unmarked.root { children = signed chosen_here setting unmarked.root.children } }
 
     abbrev identifiers : AreIdentifiers chosen_here unmarked.root.children
@@ -182,10 +182,10 @@ module _ (p : Tree) (faultless : first_fault p ≡ None) (numbered : IsNumbered 
     root_text : (f : Name → Name) → renamed_text f Elsewhere role.Root p.root.kind p.root.text ≡ p.root.text
     root_text f = subst (λ k. renamed_text f Elsewhere role.Root k p.root.text ≡ p.root.text) is_program refl
 
-    old_names : renamed_tree unsigned signed_tree ≡ unmarked
+    pub old_names : renamed_tree unsigned signed_tree ≡ unmarked
     old_names = λ i. record unmarked { root = record unmarked.root { text = root_text unsigned i; children = signs_taken chosen_here setting unmarked.root.children i } }
 
-    new_names : renamed_tree (given new) signed_tree ≡ q
+    pub new_names : renamed_tree (given new) signed_tree ≡ q
     new_names =
         let below : renamed_forest (given new) setting (signed chosen_here setting unmarked.root.children) ≡ with_name chosen_here new p.root.children =
         names_given chosen_here new setting unmarked.root.children identifiers ∙ sym (shed_first chosen_here new p.root.children) in

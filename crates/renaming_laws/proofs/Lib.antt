@@ -19,3 +19,5 @@ pub mod BackAllowed
 pub mod AloneConflicts
 pub mod AloneErrors
 pub mod KeptSymbols
+pub mod NamespaceLooks
+pub mod NamespaceNames

@@ -3,3 +3,4 @@ pub mod InBlocks
 pub mod KeptConflicts
 pub mod KeptDeclarations
 pub mod AskedNames
+pub mod LookedUp

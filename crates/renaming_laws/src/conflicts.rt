@@ -1,5 +1,5 @@
 //! Laws on declarations and their conflicts.
-ghost use Rattle.std.specs.Prelude.{◌≡◌, ℕ, [], Some, None, Ok, false, map, bytes_eq, codes, slice_get};
+ghost use Rattle.std.specs.Prelude.{◌≡◌, ℕ, [], Some, None, Ok, true, false, map, bytes_eq, codes, slice_get};
 ghost use Rattle.semantic_syntax.specs.Tables.{Name, Symbol};
 ghost use Rattle.semantic_tree.specs.Faults.{first_fault};
 ghost use Rattle.semantic_tree.specs.Renamed.{swap};
@@ -11,13 +11,15 @@ ghost use Rattle.program_laws.specs.SameAnalysis.{conflicts_of};
 ghost use Rattle.rename_model.specs.Alone.{BelongsTo, IsUnused};
 ghost use Rattle.rename_model.specs.Refusal.{rename};
 ghost use Rattle.renaming_laws.specs.InBlocks.{made_in, ShareFlags};
+ghost use Rattle.swapped_checks.specs.SwappedPrograms.{holds_within};
+ghost use Rattle.renaming_laws.specs.LookedUp.{exports_neither};
 ghost use Rattle.renaming_laws.specs.KeptDeclarations.{KeepsDeclarations};
 ghost use Rattle.renaming_laws.specs.KeptConflicts.{AreRenamedConflicts, with_other_name};
 
 /// A renaming keeps the conflicts of declarations: so many, in the same order, at the same places. Those of the symbol are told
-/// with its new name, all others as they were. Namespaces have to keep their states, which they do where there are none, and
-/// no `var` may pass, on its way out of a block, a declaration of its symbol that hasn't its flags: there a program can lose
-/// or get a conflict.
+/// with its new name, all others as they were. Namespaces have to keep their states, which they do where there are none, or
+/// where no specifier exports the old name or the new one, and no `var` may pass, on its way out of a block, a declaration of
+/// its symbol that hasn't its flags: there a program can lose or get a conflict.
 pub fn a_renaming_keeps_conflicts()
     ensures kept { (p q : Tree) (s : ℕ) (y : Symbol) (new : Name) → first_fault p ≡ None
         → IsNumbered p.root → slice_get (tables_of p).symbols s ≡ Some y
@@ -28,6 +30,11 @@ pub fn a_renaming_keeps_conflicts()
         → first_fault p ≡ None → IsNumbered p.root → slice_get (tables_of p).symbols s ≡ Some y
         → rename p s new ≡ Ok q → namespace_states (steps p) ≡ [] → ShareFlags (made_in p)
         → ShareFlags (made_in q)
+        → AreRenamedConflicts p s new (conflicts_of p) (conflicts_of q) }
+    ensures unexported { (p q : Tree) (s : ℕ) (y : Symbol) (new : Name) → first_fault p ≡ None
+        → IsNumbered p.root → slice_get (tables_of p).symbols s ≡ Some y
+        → rename p s new ≡ Ok q → holds_within (exports_neither y.name new) p.root ≡ true
+        → ShareFlags (made_in p) → ShareFlags (made_in q)
         → AreRenamedConflicts p s new (conflicts_of p) (conflicts_of q) }
 {}
 

@@ -7,3 +7,4 @@ pub mod conflicts;
 pub mod early_errors;
 pub mod going_back;
 pub mod names;
+pub mod namespaces;

@@ -3,11 +3,11 @@ use Rattle.std.proofs.Common.{◌≡◌, List, [], ◌∷◌, ◌++◌, Option, 
 use Rattle.std.specs.Prelude.{flat_map}
 use Rattle.std.specs.List.{find}
 use Rattle.semantic_syntax.specs.Sets.{meets}
-use Rattle.semantic_syntax.specs.Tables.{Name}
 use Rattle.semantic_syntax.specs.declared.references.Redeclaration.{Redeclaration}
 use Rattle.semantic_syntax.specs.declared.symbol_flags.TheConstants.SymbolFlags as symbol
 use Rattle.semantic_kinds.specs.Kinds.{same_kind}
 use Rattle.semantic_kinds.specs.declared.kind.AstType.TheVariants as kind
+use Rattle.semantic_kinds.specs.declared.mark.Mark.TheVariants as mark
 use Rattle.semantic_kinds.specs.declared.role.Role.{Role}
 use Rattle.semantic_kinds.specs.declared.role.Role.TheVariants as role
 use Rattle.semantic_tree.specs.BoundNames.{bound_names}
@@ -27,24 +27,25 @@ use Rattle.check_model.specs.Sight.{Sight, symbol_entries}
 use Rattle.check_model.specs.Surroundings.{is_strict, is_script, is_typescript, is_at_top, is_in_static_block, parent_passes}
 use Rattle.check_model.specs.TypedLoops as typed
 use Rattle.check_model.specs.Variables.{head_rows, loop_name, check_for_statement_left, check_variable_declaration, name_rows, lets_var_redeclare, check_variable_declarator_redeclaration}
+use Rattle.swapped_checks.specs.RuleWords.{KeepsRuleWords}
 use Rattle.swapped_checks.specs.SwappedRows.{AreToldAgain}
-use Rattle.swapped_checks.specs.SwappedSight.{IsRenamed}
+use Rattle.swapped_checks.proofs.Changed.{Change, IsChanged}
 use Rattle.swapped_checks.proofs.Pairwise.{Each, Agree, only_each, passes_both, some_same, some_rows, flat_same, flat_rows, told_if}
-use Rattle.swapped_checks.proofs.RenamedNodes.{KeepsWords, IsBound, kind_agrees, same_spans, guarded, word_agrees, all_each, child_both, child_agrees, whose_agrees, bound_each, either_row}
+use Rattle.swapped_checks.proofs.RenamedNodes.{IsBound, kind_agrees, mark_agrees, same_spans, guarded, word_agrees, all_each, child_both, child_agrees, whose_agrees, bound_each, either_row}
 use Rattle.swapped_checks.proofs.Around.{seen, own, own_text, parent_agrees, under, found_both, declared_same}
 
 -- the declaration of a function stays one
-pub function_agrees : (f : Name → Name) → Agree (IsRenamed f) is_declared_function is_declared_function
-function_agrees f = guarded f kind.Function (λ u ms. bytes_eq u (codes "declaration") || bytes_eq u (codes "ts-declare")) refl refl
+pub function_agrees : (f : Change) → Agree (IsChanged f) is_declared_function is_declared_function
+function_agrees f a b e = guarded f kind.Function (λ u ms. bytes_eq u (codes "declaration") || bytes_eq u (codes "ts-declare")) refl refl a b e (λ u h. refl)
 
-module _ (f : Name → Name) (keeps : KeepsWords f) (s : Sight) (st : Setting) (r : Role) (path : List Node) (above : Each (IsRenamed f) s.path path) where
+module _ (f : Change) (keeps : KeepsRuleWords f.names) (s : Sight) (st : Setting) (r : Role) (path : List Node) (above : Each (IsChanged f) s.path path) where
   abbrev t : Sight
   t = seen f s st r path
 
   abbrev R : Node → Node → Type 0
-  R = IsRenamed f
+  R = IsChanged f
 
-  abbrev mine : IsRenamed f s.node t.node
+  abbrev mine : IsChanged f s.node t.node
   mine = own f s st r path above
 
   -- ---- bodies
@@ -102,53 +103,56 @@ module _ (f : Name → Name) (keeps : KeepsWords f) (s : Sight) (st : Setting) (
       ++ row_if (bytes_eq u (codes "await using") && is_in_static_block s) (class_static_block_await_using s.node.span)) (own_text f s st r path above kind.VariableDeclaration refl refl k)
 
   -- the last declaration but one, of both
-  again_rows : (g h : Redeclaration → List Diagnostic) → ((before : Redeclaration) → AreToldAgain f (g before) (h before)) → (o p : Option Redeclaration) → p ≡ o → AreToldAgain f (rows_of_some g o) (rows_of_some h p)
-  again_rows g h k o p e = subst (λ q. AreToldAgain f (rows_of_some g o) (rows_of_some h q)) (sym e) (go o)
+  again_rows : (g h : Redeclaration → List Diagnostic) → ((before : Redeclaration) → AreToldAgain f.names (g before) (h before)) → (o p : Option Redeclaration) → p ≡ o → AreToldAgain f.names (rows_of_some g o) (rows_of_some h p)
+  again_rows g h k o p e = subst (λ q. AreToldAgain f.names (rows_of_some g o) (rows_of_some h q)) (sym e) (go o)
     where
-      go : (q : Option Redeclaration) → AreToldAgain f (rows_of_some g q) (rows_of_some h q)
+      go : (q : Option Redeclaration) → AreToldAgain f.names (rows_of_some g q) (rows_of_some h q)
       go None = tt
       go (Some before) = k before
 
-  names_told : (a b : Node) → IsBound f a b → AreToldAgain f (name_rows s a) (name_rows t b)
+  names_told : (a b : Node) → IsBound f a b → AreToldAgain f.names (name_rows s a) (name_rows t b)
   names_told a b e =
       again_rows (λ before. row_if (meets before.flags.bits symbol.Function.bits) (redeclaration a.text before.span s.node.span)) (λ before. row_if (meets before.flags.bits symbol.Function.bits) (redeclaration b.text before.span s.node.span))
-      (λ before. told_if f (meets before.flags.bits symbol.Function.bits) (meets before.flags.bits symbol.Function.bits) (redeclaration a.text before.span s.node.span ∷ []) (redeclaration b.text before.span s.node.span ∷ []) refl (either_row f a b e.0 before.span s.node.span, tt))
+      (λ before. told_if f.names (meets before.flags.bits symbol.Function.bits) (meets before.flags.bits symbol.Function.bits) (redeclaration a.text before.span s.node.span ∷ []) (redeclaration b.text before.span s.node.span ∷ []) refl (either_row f a b e.0 before.span s.node.span, tt))
       (one_before_last (symbol_entries s a)) (one_before_last (symbol_entries t b)) (ap one_before_last (declared_same f s st r path above a b e.0))
 
-  pub declarators_told : AreToldAgain f (check_variable_declarator_redeclaration s) (check_variable_declarator_redeclaration t)
+  pub declarators_told : AreToldAgain f.names (check_variable_declarator_redeclaration s) (check_variable_declarator_redeclaration t)
   declarators_told =
-      told_if f (not (is_typescript s) && (parent_passes s (has_text (codes "var")) && not (lets_var_redeclare s))) (not (is_typescript t) && (parent_passes t (has_text (codes "var")) && not (lets_var_redeclare t)))
+      told_if f.names (not (is_typescript s) && (parent_passes s (has_text (codes "var")) && not (lets_var_redeclare s))) (not (is_typescript t) && (parent_passes t (has_text (codes "var")) && not (lets_var_redeclare t)))
       (flat_map (name_rows s) (bound_names s.node)) (flat_map (name_rows t) (bound_names t.node))
       (ap (λ b. not (is_typescript s) && (b && not (lets_var_redeclare s))) (parent_agrees f s st r path above (has_text (codes "var")) var_agrees))
-      (flat_rows f (IsBound f) (name_rows s) (name_rows t) names_told (bound_names s.node) (bound_names t.node) (bound_each f s.node t.node mine))
+      (flat_rows f.names (IsBound f) (name_rows s) (name_rows t) names_told (bound_names s.node) (bound_names t.node) (bound_each f s.node t.node mine))
 
   -- ---- functions
 
-  repeats_told : (a b : Node) → R a b → (before : Redeclaration) (earlier : List Redeclaration) → AreToldAgain f (repeat_rows s a before earlier) (repeat_rows t b before earlier)
-  repeats_told a b e before earlier = go (is_sloppy_repeat s before)
+  repeats_told : (a b : Node) → R a b → (before : Redeclaration) (earlier : List Redeclaration) → AreToldAgain f.names (repeat_rows s a before earlier) (repeat_rows t b before earlier)
+  repeats_told a b e before earlier = subst (λ c. AreToldAgain f.names (repeat_rows s a before earlier) (if c then rows_of_some (λ entry. redeclaration b.text entry.span b.span ∷ []) (find is_async_or_generator earlier) else redeclaration b.text before.span b.span ∷ [])) (sym sloppy) (go (is_sloppy_repeat s before))
     where
-      entry_row : (one : Redeclaration) → AreToldAgain f (redeclaration a.text one.span a.span ∷ []) (redeclaration b.text one.span b.span ∷ [])
-      entry_row one = subst (λ sp. AreToldAgain f (redeclaration a.text one.span a.span ∷ []) (redeclaration b.text one.span sp ∷ [])) (sym (same_spans f a b e)) (either_row f a b e one.span a.span, tt)
+      sloppy : is_sloppy_repeat t before ≡ is_sloppy_repeat s before
+      sloppy = λ i. not (is_strict s) && (not (mark_agrees f mark.Async refl s.node t.node mine i || mark_agrees f mark.Generator refl s.node t.node mine i) && meets before.flags.bits symbol.Function.bits)
 
-      go : (c : Bool) → AreToldAgain f (if c then rows_of_some (λ entry. redeclaration a.text entry.span a.span ∷ []) (find is_async_or_generator earlier) else redeclaration a.text before.span a.span ∷ []) (if c then rows_of_some (λ entry. redeclaration b.text entry.span b.span ∷ []) (find is_async_or_generator earlier) else redeclaration b.text before.span b.span ∷ [])
+      entry_row : (one : Redeclaration) → AreToldAgain f.names (redeclaration a.text one.span a.span ∷ []) (redeclaration b.text one.span b.span ∷ [])
+      entry_row one = subst (λ sp. AreToldAgain f.names (redeclaration a.text one.span a.span ∷ []) (redeclaration b.text one.span sp ∷ [])) (sym (same_spans f a b e)) (either_row f a b e one.span a.span, tt)
+
+      go : (c : Bool) → AreToldAgain f.names (if c then rows_of_some (λ entry. redeclaration a.text entry.span a.span ∷ []) (find is_async_or_generator earlier) else redeclaration a.text before.span a.span ∷ []) (if c then rows_of_some (λ entry. redeclaration b.text entry.span b.span ∷ []) (find is_async_or_generator earlier) else redeclaration b.text before.span b.span ∷ [])
       go true = again_rows (λ entry. redeclaration a.text entry.span a.span ∷ []) (λ entry. redeclaration b.text entry.span b.span ∷ []) entry_row (find is_async_or_generator earlier) (find is_async_or_generator earlier) refl
       go false = entry_row before
 
-  redeclared_told : (a b : Node) → R a b → (entries : List Redeclaration) → AreToldAgain f (redeclared_rows s a entries) (redeclared_rows t b entries)
+  redeclared_told : (a b : Node) → R a b → (entries : List Redeclaration) → AreToldAgain f.names (redeclared_rows s a entries) (redeclared_rows t b entries)
   redeclared_told a b e entries =
       again_rows (λ before. rows_if (not (may_precede s before)) (repeat_rows s a before (before_last entries))) (λ before. rows_if (not (may_precede s before)) (repeat_rows t b before (before_last entries)))
-      (λ before. told_if f (not (may_precede s before)) (not (may_precede s before)) (repeat_rows s a before (before_last entries)) (repeat_rows t b before (before_last entries)) refl (repeats_told a b e before (before_last entries)))
+      (λ before. told_if f.names (not (may_precede s before)) (not (may_precede s before)) (repeat_rows s a before (before_last entries)) (repeat_rows t b before (before_last entries)) refl (repeats_told a b e before (before_last entries)))
       (one_before_last entries) (one_before_last entries) refl
 
-  idents_told : (a b : Node) → R a b → AreToldAgain f (redeclared_rows s a (symbol_entries s a)) (redeclared_rows t b (symbol_entries t b))
-  idents_told a b e = subst (λ es. AreToldAgain f (redeclared_rows s a (symbol_entries s a)) (redeclared_rows t b es)) (sym (declared_same f s st r path above a b e)) (redeclared_told a b e (symbol_entries s a))
+  idents_told : (a b : Node) → R a b → AreToldAgain f.names (redeclared_rows s a (symbol_entries s a)) (redeclared_rows t b (symbol_entries t b))
+  idents_told a b e = subst (λ es. AreToldAgain f.names (redeclared_rows s a (symbol_entries s a)) (redeclared_rows t b es)) (sym (declared_same f s st r path above a b e)) (redeclared_told a b e (symbol_entries s a))
 
   in_if_same : is_function_decl_part_of_if_statement t ≡ is_function_decl_part_of_if_statement s
   in_if_same = λ i. function_agrees f s.node t.node mine i && (not (is_strict s) && under f s st r path above kind.IfStatement i)
 
-  pub functions_told : AreToldAgain f (check_function_redeclaration s) (check_function_redeclaration t)
+  pub functions_told : AreToldAgain f.names (check_function_redeclaration s) (check_function_redeclaration t)
   functions_told =
-      told_if f (not (is_typescript s) && (is_declared_function s.node && not (is_function_decl_part_of_if_statement s))) (not (is_typescript t) && (is_declared_function t.node && not (is_function_decl_part_of_if_statement t)))
+      told_if f.names (not (is_typescript s) && (is_declared_function s.node && not (is_function_decl_part_of_if_statement s))) (not (is_typescript t) && (is_declared_function t.node && not (is_function_decl_part_of_if_statement t)))
       (rows_of_some (λ ident. redeclared_rows s ident (symbol_entries s ident)) (child_of role.Id s.node)) (rows_of_some (λ ident. redeclared_rows t ident (symbol_entries t ident)) (child_of role.Id t.node))
       (λ i. not (is_typescript s) && (function_agrees f s.node t.node mine i && not (in_if_same i)))
-      (some_rows R f (λ ident. redeclared_rows s ident (symbol_entries s ident)) (λ ident. redeclared_rows t ident (symbol_entries t ident)) idents_told (child_of role.Id s.node) (child_of role.Id t.node) (child_both f role.Id s.node t.node mine))
+      (some_rows R f.names (λ ident. redeclared_rows s ident (symbol_entries s ident)) (λ ident. redeclared_rows t ident (symbol_entries t ident)) idents_told (child_of role.Id s.node) (child_of role.Id t.node) (child_both f role.Id s.node t.node mine))

@@ -19,8 +19,8 @@ use Rattle.semantic_kinds.specs.declared.role.Role.TheVariants as role
 use Rattle.semantic_tree.specs.Forest.{Forest, nothing, tree}
 use Rattle.semantic_tree.specs.KeyNames.{whole_template, static_name_by, static_name}
 use Rattle.semantic_tree.specs.Nodes.{first_of}
-use Rattle.semantic_tree.specs.Renamed.{setting_below, renamed_text, renamed, renamed_node}
-use Rattle.semantic_tree.specs.Views.{is, has, has_text, has_child, whose, all_in, child_of, children_of}
+use Rattle.semantic_tree.specs.Renamed.{setting_below, renamed_text}
+use Rattle.semantic_tree.specs.Views.{is, has_text, has_child, whose, all_in, child_of, children_of}
 use Rattle.semantic_tree.specs.declared.node.Node.{Node}
 use Rattle.semantic_tree.specs.declared.swap.Setting.{Setting}
 use Rattle.semantic_tree.specs.declared.swap.Setting.TheVariants.{InMember, InMemberName, Elsewhere}
@@ -36,10 +36,12 @@ use Rattle.check_model.specs.Members as typed
 use Rattle.check_model.specs.Search.{rows_if, row_if, rows_of_some, passes, first, each_between}
 use Rattle.check_model.specs.Sight.{Sight, symbol_entries}
 use Rattle.check_model.specs.Surroundings.{is_typescript, first_bytes}
+use Rattle.swapped_checks.specs.RuleWords.{KeepsRuleWords}
 use Rattle.swapped_checks.specs.SwappedRows.{AreToldAgain}
-use Rattle.swapped_checks.specs.SwappedSight.{IsRenamed, renamed_at, has_plain_pieces, has_plain_keys}
+use Rattle.swapped_checks.specs.SwappedSight.{has_plain_pieces, has_plain_keys}
+use Rattle.swapped_checks.proofs.Changed.{Change, changed, changed_node, IsChanged, changed_at}
 use Rattle.swapped_checks.proofs.Pairwise.{Each, Both, Agree, filter_each, first_each, passes_both, some_same, some_rows, flat_same, flat_each, told_if}
-use Rattle.swapped_checks.proofs.RenamedNodes.{KeepsWords, kind_agrees, mark_agrees, same_kinds, same_spans, plain_text, guarded, word_agrees, all_each, child_both, child_agrees, whose_agrees, either_row}
+use Rattle.swapped_checks.proofs.RenamedNodes.{kind_agrees, mark_agrees, same_kinds, same_spans, plain_text, guarded, word_agrees, all_each, child_both, child_agrees, whose_agrees, either_row}
 use Rattle.swapped_checks.proofs.Around.{seen, own, own_text, under, declared_same}
 
 nothing_either : (b c : Bool) → rows_if {A = Diagnostic} b [] ≡ rows_if {A = Diagnostic} c []
@@ -48,29 +50,29 @@ nothing_either true false = refl
 nothing_either false true = refl
 nothing_either false false = refl
 
-module _ (f : Name → Name) where
+module _ (f : Change) where
   abbrev R : Node → Node → Type 0
-  R = IsRenamed f
+  R = IsChanged f
 
   -- ---- the names of keys
 
-  pub exactly : (q : Role) (st : Setting) (g : Forest) → children_of q (renamed f st g) ≡ map (renamed_node f st q) (children_of q g)
+  pub exactly : (q : Role) (st : Setting) (g : Forest) → children_of q (changed f st g) ≡ map (changed_node f st q) (children_of q g)
   exactly q st nothing = refl
   exactly q st (tree p k span text marks below id after) = go (same_role p q) (λ h. role_is p q h) (exactly q st after)
     where
       old : Node
       old = record { kind = k; span = span; text = text; marks = marks; children = below; node_id = id }
 
-      go : (b : Bool) → (b ≡ true → p ≡ q) → children_of q (renamed f st after) ≡ map (renamed_node f st q) (children_of q after) → (if b then renamed_node f st p old ∷ children_of q (renamed f st after) else children_of q (renamed f st after)) ≡ map (renamed_node f st q) (if b then old ∷ children_of q after else children_of q after)
-      go true e h = λ i. renamed_node f st (e refl i) old ∷ h i
+      go : (b : Bool) → (b ≡ true → p ≡ q) → children_of q (changed f st after) ≡ map (changed_node f st q) (children_of q after) → (if b then changed_node f st p old ∷ children_of q (changed f st after) else children_of q (changed f st after)) ≡ map (changed_node f st q) (if b then old ∷ children_of q after else children_of q after)
+      go true e h = λ i. changed_node f st (e refl i) old ∷ h i
       go false e h = h
 
-  not_named : (a b : Bool) (u : Name) → (a || b) ≡ false → (if a || b || false then f u else u) ≡ u
+  not_named : (a b : Bool) (u : Name) → (a || b) ≡ false → (if a || b || false then f.names u else u) ≡ u
   not_named false false u h = refl
   not_named true b u h = absurd cc
   not_named false true u h = absurd cc
 
-  pub key_text : (st : Setting) (k : AstType) (u : Name) → is_name k ≡ false → renamed_text f st role.Key k u ≡ u
+  pub key_text : (st : Setting) (k : AstType) (u : Name) → is_name k ≡ false → renamed_text f.names st role.Key k u ≡ u
   key_text InMember k u h = not_named (same_kind k kind.BindingIdentifier) (same_kind k kind.IdentifierReference) u h
   key_text InMemberName k u h = not_named (same_kind k kind.BindingIdentifier) (same_kind k kind.IdentifierReference) u h
   key_text Elsewhere k u h = not_named (same_kind k kind.BindingIdentifier) (same_kind k kind.IdentifierReference) u h
@@ -80,21 +82,21 @@ module _ (f : Name → Name) where
   in_template InMemberName = refl
   in_template Elsewhere = refl
 
-  piece_text : (x : Node) → is kind.TemplateElement x ≡ true → renamed_text f Elsewhere role.Quasis x.kind x.text ≡ x.text
-  piece_text x h = subst (λ k. renamed_text f Elsewhere role.Quasis k x.text ≡ x.text) (sym (kind_is x.kind kind.TemplateElement h)) refl
+  piece_text : (x : Node) → is kind.TemplateElement x ≡ true → renamed_text f.names Elsewhere role.Quasis x.kind x.text ≡ x.text
+  piece_text x h = subst (λ k. renamed_text f.names Elsewhere role.Quasis k x.text ≡ x.text) (sym (kind_is x.kind kind.TemplateElement h)) refl
 
-  pieces_kept : (xs : List Node) → list_all (is kind.TemplateElement) xs ≡ true → (es ds : List Node) → Each R es ds → whole_template (map (renamed_node f Elsewhere role.Quasis) xs) ds ≡ whole_template xs es
+  pieces_kept : (xs : List Node) → list_all (is kind.TemplateElement) xs ≡ true → (es ds : List Node) → Each R es ds → whole_template (map (changed_node f Elsewhere role.Quasis) xs) ds ≡ whole_template xs es
   pieces_kept [] h [] [] e = refl
   pieces_kept (x ∷ xs) h [] [] e = ap Some (piece_text x (and_first (is kind.TemplateElement x) (list_all (is kind.TemplateElement) xs) h))
   pieces_kept xs h [] (d ∷ ds) e = absurd e
   pieces_kept xs h (c ∷ es) [] e = absurd e
   pieces_kept xs h (c ∷ es) (d ∷ ds) e = refl
 
-  pub key_kept : (st : Setting) (x : Node) → list_all (is kind.TemplateElement) (all_in role.Quasis x) ≡ true → static_name (renamed_node f st role.Key x) ≡ static_name x
+  pub key_kept : (st : Setting) (x : Node) → list_all (is kind.TemplateElement) (all_in role.Quasis x) ≡ true → static_name (changed_node f st role.Key x) ≡ static_name x
   key_kept st x h = by x.kind refl
     where
       y : Node
-      y = renamed_node f st role.Key x
+      y = changed_node f st role.Key x
 
       text : (k : AstType) → x.kind ≡ k → is_name k ≡ false → y.text ≡ x.text
       text k e i = key_text st x.kind x.text (subst (λ j. is_name j ≡ false) (sym e) i)
@@ -107,16 +109,16 @@ module _ (f : Name → Name) where
       by kind.RegExpLiteral e = ap Some (text kind.RegExpLiteral e refl)
       by kind.TemplateLiteral e =
           let inside : setting_below st role.Key x.kind ≡ Elsewhere = ap (setting_below st role.Key) e ∙ in_template st in
-          ap (λ w. whole_template (children_of role.Quasis (renamed f w x.children)) (all_in role.Expressions y)) inside
+          ap (λ w. whole_template (children_of role.Quasis (changed f w x.children)) (all_in role.Expressions y)) inside
           ∙ ap (λ qs. whole_template qs (all_in role.Expressions y)) (exactly role.Quasis Elsewhere x.children)
-          ∙ pieces_kept (all_in role.Quasis x) h (all_in role.Expressions x) (all_in role.Expressions y) (all_each f role.Expressions x y (renamed_at st role.Key x))
+          ∙ pieces_kept (all_in role.Quasis x) h (all_in role.Expressions x) (all_in role.Expressions y) (all_each f role.Expressions x y (changed_at st role.Key x))
       by _ e = refl
 
   member_kept : (a b : Node) → R a b → has_plain_pieces a ≡ true → typed.member_name b ≡ typed.member_name a
-  member_kept _ _ (renamed_at st q m) h =
+  member_kept _ _ (changed_at st q m) h =
       ap (λ xs. option_and_then static_name (first_of xs)) (exactly role.Key (setting_below st q m.kind) m.children) ∙ go (children_of role.Key m.children) h
     where
-      go : (xs : List Node) → list_all (λ key. list_all (is kind.TemplateElement) (all_in role.Quasis key)) xs ≡ true → option_and_then static_name (first_of (map (renamed_node f (setting_below st q m.kind) role.Key) xs)) ≡ option_and_then static_name (first_of xs)
+      go : (xs : List Node) → list_all (λ key. list_all (is kind.TemplateElement) (all_in role.Quasis key)) xs ≡ true → option_and_then static_name (first_of (map (changed_node f (setting_below st q m.kind) role.Key) xs)) ≡ option_and_then static_name (first_of xs)
       go [] i = refl
       go (x ∷ xs) i = key_kept (setting_below st q m.kind) x (and_first (list_all (is kind.TemplateElement) (all_in role.Quasis x)) (list_all (λ key. list_all (is kind.TemplateElement) (all_in role.Quasis key)) xs) i)
 
@@ -144,7 +146,7 @@ module _ (f : Name → Name) where
   constructor_agrees : Agree R is_constructor_with_body is_constructor_with_body
   constructor_agrees a b e =
       both_tests (is kind.MethodDefinition a) (is kind.MethodDefinition b) (has_text (codes "constructor") a) (has_text (codes "constructor") b) (whose role.Value (has_child role.Body) a) (whose role.Value (has_child role.Body) b)
-      (kind_agrees f (λ k. same_kind k kind.MethodDefinition) a b e) (guarded f kind.MethodDefinition (λ u ms. bytes_eq u (codes "constructor")) refl refl a b e) (whose_agrees f role.Value (has_child role.Body) (has_child role.Body) (child_agrees f role.Body) a b e)
+      (kind_agrees f (λ k. same_kind k kind.MethodDefinition) a b e) (guarded f kind.MethodDefinition (λ u ms. bytes_eq u (codes "constructor")) refl refl a b e (λ u h. refl)) (whose_agrees f role.Value (has_child role.Body) (has_child role.Body) (child_agrees f role.Body) a b e)
 
   some_piece : (xs ys us vs : List Node) → Each R xs ys → Each R us vs → is_some (whole_template ys vs) ≡ is_some (whole_template xs us)
   some_piece [] [] [] [] d e = refl
@@ -186,7 +188,7 @@ module _ (f : Name → Name) where
   property_agrees = kind_agrees f (λ k. same_kind k kind.PropertyDefinition || same_kind k kind.AccessorProperty)
 
   abstract_same : (a b : Node) → R a b → typed.abstract_rows b ≡ typed.abstract_rows a
-  abstract_same a b e = λ i. rows_if (mark_agrees f mark.Abstract a b e i)
+  abstract_same a b e = λ i. rows_if (mark_agrees f mark.Abstract refl a b e i)
       (some_same R (λ key. abstract_elem_in_concrete_class (typed.is_property a) key.span ∷ []) (λ key. abstract_elem_in_concrete_class (typed.is_property b) key.span ∷ []) (λ x y h. λ j. abstract_elem_in_concrete_class (property_agrees a b e j) (same_spans f x y h j) ∷ []) (child_of role.Key a) (child_of role.Key b) (child_both f role.Key a b e) i)
 
   between_same : (g h : Option Node → Node → Option Node → List Diagnostic) → ((o p : Option Node) (x y : Node) (u v : Option Node) → Both M o p → M x y → Both M u v → h p y v ≡ g o x u) → (o p : Option Node) (xs ys : List Node) → Both M o p → Each M xs ys → each_between h p ys ≡ each_between g o xs
@@ -195,9 +197,9 @@ module _ (f : Name → Name) where
   between_same g h k o p (x ∷ xs) [] d e = absurd e
   between_same g h k o p (x ∷ xs) (y ∷ ys) d e = λ i. k o p x y (first xs) (first ys) d e.0 (first_each M xs ys e.1) i ++ between_same g h k (Some x) (Some y) xs ys e.0 e.1 i
 
-  module _ (keeps : KeepsWords f) where
+  module _ (keeps : KeepsRuleWords f.names) where
     bodiless_agrees : Agree R typed.is_bodiless typed.is_bodiless
-    bodiless_agrees a b e = λ i. kind_agrees f (λ k. same_kind k kind.MethodDefinition) a b e i && (not (mark_agrees f mark.Abstract a b e i || mark_agrees f mark.Optional a b e i) && whose_agrees f role.Value (has_text (codes "ts-empty-body")) (has_text (codes "ts-empty-body")) (word_agrees f keeps (codes "ts-empty-body") refl) a b e i)
+    bodiless_agrees a b e = λ i. kind_agrees f (λ k. same_kind k kind.MethodDefinition) a b e i && (not (mark_agrees f mark.Abstract refl a b e i || mark_agrees f mark.Optional refl a b e i) && whose_agrees f role.Value (has_text (codes "ts-empty-body")) (has_text (codes "ts-empty-body")) (word_agrees f keeps (codes "ts-empty-body") refl) a b e i)
 
     overload_same : (a b : Node) → M a b → (x y : Node) → M x y → typed.is_overload b y ≡ typed.is_overload a x
     overload_same a b e x y h = λ i. bodiless_agrees a b e.0 i && (kind_agrees f (λ k. same_kind k kind.MethodDefinition) x y h.0 i && typed.same_name (e.1 i) (h.1 i))
@@ -227,40 +229,40 @@ module _ (f : Name → Name) where
         same : asked p y v ≡ asked o x u
         same = λ i. bodiless_agrees x y e.0 i && (not (passes_both M (typed.is_overload x) (typed.is_overload y) (λ a b k. overload_same x y e a b k) u v h i) && (is_some (e.1 i) || passes_both M (λ overload. typed.is_overload overload x) (λ overload. typed.is_overload overload y) (λ a b k. overload_same a b k x y e) o p d i))
 
-module _ (f : Name → Name) (keeps : KeepsWords f) (s : Sight) (st : Setting) (r : Role) (path : List Node) (above : Each (IsRenamed f) s.path path) where
+module _ (f : Change) (keeps : KeepsRuleWords f.names) (s : Sight) (st : Setting) (r : Role) (path : List Node) (above : Each (IsChanged f) s.path path) where
   abbrev t : Sight
   t = seen f s st r path
 
-  abbrev mine : IsRenamed f s.node t.node
+  abbrev mine : IsChanged f s.node t.node
   mine = own f s st r path above
 
   class_names_same : s.node.kind ≡ kind.Class → class_name_rows t ≡ class_name_rows s
   class_names_same k = λ i. row_if (bytes_eq (own_text f s st r path above kind.Class refl refl k i) (codes "declaration") && not (child_agrees f role.Id s.node t.node mine i || under f s st r path above kind.ExportDefaultDeclaration i)) (require_class_name (first_bytes 5 s.node.span))
 
   constructors_same : constructor_rows t ≡ constructor_rows s
-  constructors_same = second_same f (filter is_constructor_with_body (members s.node)) (filter is_constructor_with_body (members t.node)) (filter_each (IsRenamed f) is_constructor_with_body is_constructor_with_body (constructor_agrees f) (members s.node) (members t.node) (members_each f s.node t.node mine))
+  constructors_same = second_same f (filter is_constructor_with_body (members s.node)) (filter is_constructor_with_body (members t.node)) (filter_each (IsChanged f) is_constructor_with_body is_constructor_with_body (constructor_agrees f) (members s.node) (members t.node) (members_each f s.node t.node mine))
 
   pub classes_same : s.node.kind ≡ kind.Class → check_class t ≡ check_class s
   classes_same k = λ i. private_use_rows s ++ (class_names_same k i ++ constructors_same i)
 
-  again_told : (a b : Node) → IsRenamed f a b → (o : Option Redeclaration) → AreToldAgain f (rows_of_some (λ before. row_if (meets before.flags.bits symbol.Function.bits) (redeclaration a.text before.span a.span)) o) (rows_of_some (λ before. row_if (meets before.flags.bits symbol.Function.bits) (redeclaration b.text before.span b.span)) o)
+  again_told : (a b : Node) → IsChanged f a b → (o : Option Redeclaration) → AreToldAgain f.names (rows_of_some (λ before. row_if (meets before.flags.bits symbol.Function.bits) (redeclaration a.text before.span a.span)) o) (rows_of_some (λ before. row_if (meets before.flags.bits symbol.Function.bits) (redeclaration b.text before.span b.span)) o)
   again_told a b e None = tt
   again_told a b e (Some before) =
-      told_if f (meets before.flags.bits symbol.Function.bits) (meets before.flags.bits symbol.Function.bits) (redeclaration a.text before.span a.span ∷ []) (redeclaration b.text before.span b.span ∷ []) refl
-      (subst (λ sp. AreToldAgain f (redeclaration a.text before.span a.span ∷ []) (redeclaration b.text before.span sp ∷ [])) (sym (same_spans f a b e)) (either_row f a b e before.span a.span, tt))
+      told_if f.names (meets before.flags.bits symbol.Function.bits) (meets before.flags.bits symbol.Function.bits) (redeclaration a.text before.span a.span ∷ []) (redeclaration b.text before.span b.span ∷ []) refl
+      (subst (λ sp. AreToldAgain f.names (redeclaration a.text before.span a.span ∷ []) (redeclaration b.text before.span sp ∷ [])) (sym (same_spans f a b e)) (either_row f a b e before.span a.span, tt))
 
   abbrev ident_rows : Sight → Node → List Diagnostic
   ident_rows z ident = rows_of_some (λ before. row_if (meets before.flags.bits symbol.Function.bits) (redeclaration ident.text before.span ident.span)) (one_before_last (symbol_entries z ident))
 
-  idents_told : (a b : Node) → IsRenamed f a b → AreToldAgain f (ident_rows s a) (ident_rows t b)
-  idents_told a b e = subst (λ es. AreToldAgain f (ident_rows s a) (rows_of_some (λ before. row_if (meets before.flags.bits symbol.Function.bits) (redeclaration b.text before.span b.span)) (one_before_last es))) (sym (declared_same f s st r path above a b e)) (again_told a b e (one_before_last (symbol_entries s a)))
+  idents_told : (a b : Node) → IsChanged f a b → AreToldAgain f.names (ident_rows s a) (ident_rows t b)
+  idents_told a b e = subst (λ es. AreToldAgain f.names (ident_rows s a) (rows_of_some (λ before. row_if (meets before.flags.bits symbol.Function.bits) (redeclaration b.text before.span b.span)) (one_before_last es))) (sym (declared_same f s st r path above a b e)) (again_told a b e (one_before_last (symbol_entries s a)))
 
-  pub redeclared_told : AreToldAgain f (check_class_redeclaration s) (check_class_redeclaration t)
+  pub redeclared_told : AreToldAgain f.names (check_class_redeclaration s) (check_class_redeclaration t)
   redeclared_told =
-      told_if f (not (is_typescript s)) (not (is_typescript s)) (rows_of_some (ident_rows s) (child_of role.Id s.node)) (rows_of_some (ident_rows t) (child_of role.Id t.node)) refl
-      (some_rows (IsRenamed f) f (ident_rows s) (ident_rows t) idents_told (child_of role.Id s.node) (child_of role.Id t.node) (child_both f role.Id s.node t.node mine))
+      told_if f.names (not (is_typescript s)) (not (is_typescript s)) (rows_of_some (ident_rows s) (child_of role.Id s.node)) (rows_of_some (ident_rows t) (child_of role.Id t.node)) refl
+      (some_rows (IsChanged f) f.names (ident_rows s) (ident_rows t) idents_told (child_of role.Id s.node) (child_of role.Id t.node) (child_both f role.Id s.node t.node mine))
 
   pub members_same : has_plain_keys s.node ≡ true → typed.check_class_members t ≡ typed.check_class_members s
   members_same h = λ i.
-      rows_if (not (has mark.Abstract s.node)) (flat_same (IsRenamed f) typed.abstract_rows typed.abstract_rows (abstract_same f) (members s.node) (members t.node) (members_each f s.node t.node mine) i)
+      rows_if (not (mark_agrees f mark.Abstract refl s.node t.node mine i)) (flat_same (IsChanged f) typed.abstract_rows typed.abstract_rows (abstract_same f) (members s.node) (members t.node) (members_each f s.node t.node mine) i)
       ++ rows_if (not s.is_ambient) (between_same f typed.implementation_rows typed.implementation_rows (implementations_same f keeps) None None (members s.node) (members t.node) tt (members_kept f (members s.node) (members t.node) (members_each f s.node t.node mine) h) i)

@@ -22,14 +22,15 @@ use Rattle.check_model.specs.Groups.{is_jump_boundary, is_label, under_labels}
 use Rattle.check_model.specs.Jumps.{stops_jumps, ends_jump_search, is_labelled_by, unlabelled_rows, continue_rows, met_rows, labelled_rows, break_rows, continue_rows_by, check_break_statement, check_continue_statement, same_label_around, own_label_rows, check_labeled_statement}
 use Rattle.check_model.specs.Search.{row_if, rows_of_some}
 use Rattle.check_model.specs.Sight.{Sight}
-use Rattle.swapped_checks.specs.SwappedSight.{IsRenamed, has_plain_labels}
+use Rattle.swapped_checks.specs.SwappedSight.{has_plain_labels}
+use Rattle.swapped_checks.proofs.Changed.{Change, IsChanged}
 use Rattle.swapped_checks.proofs.Pairwise.{Each, Both, Agree, find_each, find_before_each, some_same}
 use Rattle.swapped_checks.proofs.RenamedNodes.{kind_agrees, same_spans, plain_text, all_each, child_both, unwrapped_each}
 use Rattle.swapped_checks.proofs.Around.{seen, own}
 
-module _ (f : Name → Name) where
+module _ (f : Change) where
   abbrev R : Node → Node → Type 0
-  R = IsRenamed f
+  R = IsChanged f
 
   -- a node whose labels are labels
   abbrev pub L : Node → Node → Type 0
@@ -118,7 +119,7 @@ module _ (f : Name → Name) where
         (find_before_each L stops_jumps (is_labelled_by a) stops_jumps (is_labelled_by b) (kinds_agree is_jump_boundary)
         (λ x y e. (λ i. is kind.LabeledStatement y && whose role.Label (has_text (l.0 i)) y) ∙ labels_agree a.text x y e) xs ys above)
 
-module _ (f : Name → Name) (s : Sight) (st : Setting) (r : Role) (path : List Node) (above : Each (IsRenamed f) s.path path) (labels : list_all has_plain_labels (s.node ∷ s.path) ≡ true) where
+module _ (f : Change) (s : Sight) (st : Setting) (r : Role) (path : List Node) (above : Each (IsChanged f) s.path path) (labels : list_all has_plain_labels (s.node ∷ s.path) ≡ true) where
   abbrev t : Sight
   t = seen f s st r path
 

@@ -1,4 +1,5 @@
 pub mod Pairwise
+pub mod Changed
 pub mod RenamedNodes
 pub mod Around
 pub mod BodyRows
@@ -16,3 +17,4 @@ pub mod PlainForm
 pub mod SeenClasses
 pub mod SeenPlaces
 pub mod ToldPrograms
+pub mod SwappedTold

@@ -20,10 +20,10 @@ use Rattle.check_model.specs.Names.{is_strict_reserved, reserved_because, not_as
 use Rattle.check_model.specs.Search.{rows_if, row_if, passes, find_before}
 use Rattle.check_model.specs.Sight.{Sight}
 use Rattle.check_model.specs.Surroundings.{is_strict, is_module, is_definition, scope_passes, links}
-use Rattle.swapped_checks.specs.RuleWords.{is_rule_word}
-use Rattle.swapped_checks.specs.SwappedSight.{IsRenamed}
+use Rattle.swapped_checks.specs.RuleWords.{is_rule_word, KeepsRuleWords}
+use Rattle.swapped_checks.proofs.Changed.{Change, IsChanged}
 use Rattle.swapped_checks.proofs.Pairwise.{Each, Both, OfPairs, Agree, find_each, passes_both, some_same}
-use Rattle.swapped_checks.proofs.RenamedNodes.{KeepsWords, kind_agrees, plain_text, word_agrees, whose_agrees, inner_agrees}
+use Rattle.swapped_checks.proofs.RenamedNodes.{kind_agrees, plain_text, word_agrees, whose_agrees, inner_agrees}
 use Rattle.swapped_checks.proofs.Around.{seen, in_class, parent_agrees, under, links_both}
 
 -- a name that no rule asks for
@@ -48,12 +48,12 @@ module _ (s : Sight) (q : IsQuiet s.node.text) where
   pub reference_quiet : check_identifier_reference s ≡ []
   reference_quiet = rw (q.no_eval, q.no_arguments) (nothing_if (not (is_definition s)))
 
-module _ (f : Name → Name) (keeps : KeepsWords f) (s : Sight) (st : Setting) (r : Role) (path : List Node) (above : Each (IsRenamed f) s.path path) where
+module _ (f : Change) (keeps : KeepsRuleWords f.names) (s : Sight) (st : Setting) (r : Role) (path : List Node) (above : Each (IsChanged f) s.path path) where
   abbrev t : Sight
   t = seen f s st r path
 
   abbrev R : Node → Node → Type 0
-  R = IsRenamed f
+  R = IsChanged f
 
   abbrev P : Node × Node → Node × Node → Type 0
   P = OfPairs R

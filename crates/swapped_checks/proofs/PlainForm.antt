@@ -117,7 +117,7 @@ formed_below place k (tree r k2 span text marks below id after) h =
     and_from (is_formed node) (holds_below is_formed below && holds_below is_formed after) (node_formed here node q.0)
     (and_from (holds_below is_formed below) (holds_below is_formed after) (formed_below here k2 below w.0) (formed_below place k after w.1))
 
-formed_within : (p : Tree) → first_fault p ≡ None → holds_within is_formed p.root ≡ true
+pub formed_within : (p : Tree) → first_fault p ≡ None → holds_within is_formed p.root ≡ true
 formed_within p h =
     let q : (is_well_formed root_place p.root ≡ true) × NoneMisshapen (placed_below root_place p.root.kind p.root.children) = first_formed (root_place, p.root) (placed_below root_place p.root.kind p.root.children) (none_misshapen p h) in
     and_from (is_formed p.root) (holds_below is_formed p.root.children) (node_formed root_place p.root q.0) (formed_below root_place p.root.kind p.root.children q.1)

@@ -1,11 +1,12 @@
 -- What rules see at a place of a program is what they see at that place of the program with other names, with other names.
-use Rattle.std.proofs.Common.{◌≡◌, ℕ, List, [], ◌∷◌, Bool, true, inl, inr, refl, ap, ◌∙◌, map}
+use Rattle.std.proofs.Common.{◌≡◌, ℕ, List, [], ◌∷◌, Bool, true, ◌&&◌, ◌||◌, not, inl, inr, refl, ap, ◌∙◌, map}
 use Rattle.std.specs.List.{list_all}
 use Rattle.std.proofs.lemmas.Bool.{and_from}
 use Rattle.semantic_syntax.proofs.Truth.{and_first}
 use Rattle.semantic_syntax.specs.Tables.{Name}
 use Rattle.semantic_kinds.specs.Kinds.{same_kind}
 use Rattle.semantic_kinds.specs.declared.kind.AstType.TheVariants as kind
+use Rattle.semantic_kinds.specs.declared.mark.Mark.TheVariants as mark
 use Rattle.semantic_kinds.specs.declared.role.Role.TheVariants as role
 use Rattle.semantic_tree.specs.Forest.{Forest}
 use Rattle.semantic_tree.specs.Views.{is, all_in}
@@ -22,11 +23,15 @@ use Rattle.semantic_model.proofs.swapped.AlikeScopes.{re, opened_same}
 use Rattle.semantic_model.proofs.swapped.AlikeSteps.{SamePlace}
 use Rattle.check_model.specs.Classes.{members}
 use Rattle.check_model.specs.SightOf.{seen_scope, or_own, scopes_at, symbol_pair, list_if, bound_by_root, sight_of}
+use Rattle.swapped_checks.specs.RuleWords.{KeepsRuleWords}
 use Rattle.swapped_checks.specs.SwappedPrograms.{holds_below}
-use Rattle.swapped_checks.specs.SwappedSight.{AreRenamed, IsRenamedSight, HasPlainParts, has_plain_labels, has_plain_pieces}
+use Rattle.program_laws.proofs.ScopeMarks.{remarked_place}
+use Rattle.program_laws.proofs.ScopeMarks as unmarked
+use Rattle.swapped_checks.specs.SwappedSight.{HasPlainParts, has_plain_labels, has_plain_pieces}
+use Rattle.swapped_checks.proofs.Changed.{Change, IsChanged, IsChangedSight}
 use Rattle.swapped_checks.proofs.PlainForm.{has_own_pieces}
 use Rattle.swapped_checks.proofs.Pairwise.{Each, flat_each}
-use Rattle.swapped_checks.proofs.RenamedNodes.{KeepsWords, same_kinds, either_text}
+use Rattle.swapped_checks.proofs.RenamedNodes.{same_kinds, either_text}
 use Rattle.swapped_checks.proofs.SeenClasses.{own_plain, inner_each, classes_same, uses_seen, elements_seen}
 use Rattle.swapped_checks.proofs.Spots.{Within, Spot}
 
@@ -36,15 +41,15 @@ pub record Tells (f : Name → Name) (test : Node → Bool) : Type 0 where
   pub pieces : (n : Node) → test n ≡ true → has_own_pieces n ≡ true
   pub strings : (n : Node) → test n ≡ true → is kind.StringLiteral n ≡ true → f n.text ≡ n.text
 
-module _ (f : Name → Name) (words : KeepsWords f) (keeps : Keeps f) (test : Node → Bool) (tells : Tells f test) where
+module _ (f : Change) (words : KeepsRuleWords f.names) (keeps : Keeps f.names) (test : Node → Bool) (tells : Tells f.names test) where
   abbrev W : Node → Node → Type 0
   W = Within f test
 
-  renamed_each : (xs ys : List Node) → Each W xs ys → AreRenamed f xs ys
-  renamed_each [] [] e = tt
-  renamed_each [] (y ∷ ys) e = absurd e
-  renamed_each (x ∷ xs) [] e = absurd e
-  renamed_each (x ∷ xs) (y ∷ ys) e = (e.0.0, renamed_each xs ys e.1)
+  changed_each : (xs ys : List Node) → Each W xs ys → Each (IsChanged f) xs ys
+  changed_each [] [] e = tt
+  changed_each [] (y ∷ ys) e = absurd e
+  changed_each (x ∷ xs) [] e = absurd e
+  changed_each (x ∷ xs) (y ∷ ys) e = (e.0.0, changed_each xs ys e.1)
 
   -- what the test tells of each
   each_labels : (xs ys : List Node) → Each W xs ys → list_all has_plain_labels xs ≡ true
@@ -68,19 +73,31 @@ module _ (f : Name → Name) (words : KeepsWords f) (keeps : Keeps f) (test : No
   scopes_by p u g path e [] = λ i. seen_scope (e i) ∷ []
   scopes_by p u g path e (one ∷ more) = refl
 
-  scopes_seen : (p q : Place) → SamePlace f p q → scopes_at q ≡ scopes_at p
-  scopes_seen p q s = ap scopes_at s.is ∙ scopes_by p s.u s.g s.path (opened_same f p s.u s.g s.path 0 s.node s.above) p.chain
+  unmarked_scopes : (p : Place) (c : List OpenScope) → map seen_scope (or_own (remarked_place f.marks p) c) ≡ map seen_scope (or_own p c)
+  unmarked_scopes p [] = λ i. seen_scope (unmarked.opened_same f.marks p 0 i) ∷ []
+  unmarked_scopes p (one ∷ more) = refl
 
-  pairs_same : (ms : List Made) → map symbol_pair (map (renamed_made f) ms) ≡ map symbol_pair ms
+  scopes_seen : (p q : Place) → SamePlace f.names (remarked_place f.marks p) q → scopes_at q ≡ scopes_at p
+  scopes_seen p q s =
+      ap scopes_at s.is
+      ∙ scopes_by (remarked_place f.marks p) s.u s.g s.path (opened_same f.names (remarked_place f.marks p) s.u s.g s.path 0 s.node s.above) p.chain
+      ∙ unmarked_scopes p p.chain
+
+  ambient_seen : (p q : Place) → SamePlace f.names (remarked_place f.marks p) q → ambient_inside q.node q.is_ambient ≡ ambient_inside p.node p.is_ambient
+  ambient_seen p q s =
+      ap (λ x. ambient_inside x.node x.is_ambient) s.is
+      ∙ ap (λ b. p.is_ambient || (b && not (is kind.AccessorProperty p.node))) (f.kept p.node mark.Declare refl)
+
+  pairs_same : (ms : List Made) → map symbol_pair (map (renamed_made f.names) ms) ≡ map symbol_pair ms
   pairs_same [] = refl
   pairs_same (m ∷ ms) = ap (λ ps. symbol_pair m ∷ ps) (pairs_same ms)
 
-  seconds : (bs : List (Name × ℕ)) → map (λ b. b.1) (map (renamed_key f) bs) ≡ map (λ b. b.1) bs
+  seconds : (bs : List (Name × ℕ)) → map (λ b. b.1) (map (renamed_key f.names) bs) ≡ map (λ b. b.1) bs
   seconds [] = refl
   seconds (b ∷ bs) = ap (λ ns. b.1 ∷ ns) (seconds bs)
 
-  bound_seen : (a b : Node) → W a b → (st : State) → bound_by_root b (renamed_state f st) ≡ bound_by_root a st
-  bound_seen a b w st = λ i. list_if (same_kind (same_kinds f a b w.0 i) kind.Program) ((ap (map (λ b. b.1)) (bound_by_same f keeps st.bindings 0) ∙ seconds (bound_by st.bindings 0)) i)
+  bound_seen : (a b : Node) → W a b → (st : State) → bound_by_root b (renamed_state f.names st) ≡ bound_by_root a st
+  bound_seen a b w st = λ i. list_if (same_kind (same_kinds f a b w.0 i) kind.Program) ((ap (map (λ b. b.1)) (bound_by_same f.names keeps st.bindings 0) ∙ seconds (bound_by st.bindings 0)) i)
 
   -- ---- the sight
 
@@ -96,19 +113,19 @@ module _ (f : Name → Name) (words : KeepsWords f) (keeps : Keeps f) (test : No
     | inr e ↦ e ∙ tells.strings a (and_first (test a) (holds_below test a.children) w.1) h
   ]
 
-  pub seen_place : (source free : List ℕ) (st : State) (p q : Place) → SamePlace f p q → Spot f test p q → IsRenamedSight f (sight_of source free st p) (sight_of source free (renamed_state f st) q)
+  pub seen_place : (source free : List ℕ) (st : State) (p q : Place) → SamePlace f.names (remarked_place f.marks p) q → Spot f test p q → IsChangedSight f (sight_of source free st p) (sight_of source free (renamed_state f.names st) q)
   seen_place source free st p q s w = record {
     node = w.0.0;
-    path = renamed_each p.path q.path w.1;
+    path = changed_each p.path q.path w.1;
     symbols = refl;
     others = λ i. record {
       node = q.node;
       path = q.path;
       source = source;
       source_type = ap (λ x. x.source_type) s.is i;
-      is_ambient = ap (λ x. ambient_inside x.node x.is_ambient) s.is i;
+      is_ambient = ambient_seen p q s i;
       scopes = scopes_seen p q s i;
-      symbols = (renamed_state f st).symbols;
+      symbols = (renamed_state f.names st).symbols;
       declared = pairs_same st.made i;
       classes = classes_same f words test tells.pieces p.node q.node p.path q.path w.0 w.1 i;
       uses = uses_seen f words test tells.pieces p.node q.node w.0 i;

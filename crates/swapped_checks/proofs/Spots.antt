@@ -2,11 +2,10 @@
 use Rattle.std.proofs.Common.{◌≡◌, ℕ, ◌+◌, List, [], ◌∷◌, ◌++◌, Option, Some, None, cond, Bool, true, false, not, ◌&&◌, sym, ap, subst, ◌∙◌}
 use Rattle.semantic_syntax.proofs.Truth.{and_first, and_second}
 use Rattle.std.proofs.lemmas.Bool.{and_from}
-use Rattle.semantic_syntax.specs.Tables.{Name}
 use Rattle.semantic_kinds.specs.declared.role.Role.{Role}
 use Rattle.semantic_kinds.specs.declared.role.Role.TheVariants as role
 use Rattle.semantic_tree.specs.Forest.{Forest, nothing, tree}
-use Rattle.semantic_tree.specs.Renamed.{setting_below, renamed, renamed_node, renamed_tree}
+use Rattle.semantic_tree.specs.Renamed.{setting_below}
 use Rattle.semantic_tree.specs.Tree.{Tree}
 use Rattle.semantic_tree.specs.Views.{has_role}
 use Rattle.semantic_tree.specs.declared.node.Node.{Node}
@@ -19,21 +18,23 @@ use Rattle.semantic_model.specs.ScopeKind.{opened_scope}
 use Rattle.semantic_model.specs.Step.{Step, entering, opening, header_ending, closing, leaving, steps_below, opening_at, ending_after, opening_last, scope_at, next_at, child_place, cursor_past, steps, root_place}
 use Rattle.semantic_model.proofs.swapped.Alike.{alike_renamed}
 use Rattle.semantic_model.proofs.swapped.AlikeScopes.{roles_same, insides_same}
+use Rattle.program_laws.specs.Remarked.{remarked}
+use Rattle.program_laws.proofs.Children as unmarked
 use Rattle.swapped_checks.specs.SwappedPrograms.{holds_below, holds_within}
-use Rattle.swapped_checks.specs.SwappedSight.{IsRenamed, renamed_at}
+use Rattle.swapped_checks.proofs.Changed.{Change, changed, changed_node, IsChanged, changed_at, changed_tree}
 use Rattle.swapped_checks.proofs.Pairwise.{Each}
 use Rattle.swapped_checks.proofs.RenamedNodes.{same_kinds}
 
-module _ (f : Name → Name) (test : Node → Bool) where
+module _ (f : Change) (test : Node → Bool) where
   -- a renamed node that passes the test, and so does what is below it
   abbrev pub Within : Node → Node → Type 0
-  Within a b = IsRenamed f a b × (holds_within test a ≡ true)
+  Within a b = IsChanged f a b × (holds_within test a ≡ true)
 
   abbrev pub Spot : Place → Place → Type 0
   Spot p q = Within p.node q.node × Each Within p.path q.path
 
   abbrev pub SpotStep : Step → Step → Type 0
-  SpotStep (entering p) (entering q) = Unit {0}
+  SpotStep (entering p) (entering q) = Spot p q
   SpotStep (opening p s) (opening q t) = Unit {0}
   SpotStep (header_ending p s) (header_ending q t) = Unit {0}
   SpotStep (closing p s) (closing q t) = Unit {0}
@@ -94,26 +95,26 @@ module _ (f : Name → Name) (test : Node → Bool) where
   ends_by p q s t false true = (tt, tt)
   ends_by p q s t false false = tt
 
-  ending_spots : (p q : Place) (r : Role) (own new : Option OpenScope) (st : Setting) (after : Forest) → q.node.kind ≡ p.node.kind → Level own new → Spots (ending_after p r own after) (ending_after q r new (renamed f st after))
+  ending_spots : (p q : Place) (r : Role) (own new : Option OpenScope) (st : Setting) (after : Forest) → q.node.kind ≡ p.node.kind → Level own new → Spots (ending_after p r own after) (ending_after q r new (changed f st after))
   ending_spots p q r None None st after e l = tt
   ending_spots p q r None (Some s) st after e l = absurd l
   ending_spots p q r (Some s) None st after e l = absurd l
   ending_spots p q r (Some s) (Some t) st after e l =
-      subst (λ c. Spots (ending_after p r (Some s) after) (cond c (header_ending q t ∷ []) [] ++ cond (is_inside q.node.kind r && not (any_inside q.node.kind (renamed f st after))) (closing q t ∷ []) [])) (sym heads)
+      subst (λ c. Spots (ending_after p r (Some s) after) (cond c (header_ending q t ∷ []) [] ++ cond (is_inside q.node.kind r && not (any_inside q.node.kind (changed f st after))) (closing q t ∷ []) [])) (sym heads)
       (subst (λ c. Spots (ending_after p r (Some s) after) (cond (is_in_header p.node.kind r && not (has_role (header_roles p.node.kind) after)) (header_ending q t ∷ []) [] ++ cond c (closing q t ∷ []) [])) (sym insides)
       (ends_by p q s t (is_in_header p.node.kind r && not (has_role (header_roles p.node.kind) after)) (is_inside p.node.kind r && not (any_inside p.node.kind after))))
     where
-      heads : (is_in_header q.node.kind r && not (has_role (header_roles q.node.kind) (renamed f st after))) ≡ (is_in_header p.node.kind r && not (has_role (header_roles p.node.kind) after))
-      heads = ap (λ k. is_in_header k r && not (has_role (header_roles k) (renamed f st after))) e ∙ ap (λ c. is_in_header p.node.kind r && not c) (roles_same f (header_roles p.node.kind) after (renamed f st after) (alike_renamed f st after))
+      heads : (is_in_header q.node.kind r && not (has_role (header_roles q.node.kind) (changed f st after))) ≡ (is_in_header p.node.kind r && not (has_role (header_roles p.node.kind) after))
+      heads = ap (λ k. is_in_header k r && not (has_role (header_roles k) (changed f st after))) e ∙ ap (λ c. is_in_header p.node.kind r && not c) (roles_same f.names (header_roles p.node.kind) (remarked f.marks after) (changed f st after) (alike_renamed f.names st (remarked f.marks after)) ∙ unmarked.roles_same f.marks (header_roles p.node.kind) after)
 
-      insides : (is_inside q.node.kind r && not (any_inside q.node.kind (renamed f st after))) ≡ (is_inside p.node.kind r && not (any_inside p.node.kind after))
-      insides = ap (λ k. is_inside k r && not (any_inside k (renamed f st after))) e ∙ ap (λ c. is_inside p.node.kind r && not c) (insides_same f p.node.kind after (renamed f st after) (alike_renamed f st after))
+      insides : (is_inside q.node.kind r && not (any_inside q.node.kind (changed f st after))) ≡ (is_inside p.node.kind r && not (any_inside p.node.kind after))
+      insides = ap (λ k. is_inside k r && not (any_inside k (changed f st after))) e ∙ ap (λ c. is_inside p.node.kind r && not c) (insides_same f.names p.node.kind (remarked f.marks after) (changed f st after) (alike_renamed f.names st (remarked f.marks after)) ∙ unmarked.insides_same f.marks p.node.kind after)
 
-  steps_spots : (p q : Place) → Spot p q → (own new : Option OpenScope) → Level own new → (n m c d : ℕ) (st : Setting) (g : Forest) → holds_below test g ≡ true → Spots (steps_below p own n c g) (steps_below q new m d (renamed f st g))
+  steps_spots : (p q : Place) → Spot p q → (own new : Option OpenScope) → Level own new → (n m c d : ℕ) (st : Setting) (g : Forest) → holds_below test g ≡ true → Spots (steps_below p own n c g) (steps_below q new m d (changed f st g))
   steps_spots p q w own new l n m c d st nothing h = last_spots p q own new n m (same_kinds f p.node q.node w.0.0) l
   steps_spots p q w own new l n m c d st (tree r k span text marks below id after) h =
       let node : Node = record { kind = k; span = span; text = text; marks = marks; children = below; node_id = id } in
-      let node' : Node = renamed_node f st r node in
+      let node' : Node = changed_node f st r node in
       let kinds : q.node.kind ≡ p.node.kind = same_kinds f p.node q.node w.0.0 in
       let own' : Option OpenScope = scope_at p r own n in
       let new' : Option OpenScope = scope_at q r new m in
@@ -124,26 +125,26 @@ module _ (f : Name → Name) (test : Node → Bool) where
       let rest : (holds_below test below && holds_below test after) ≡ true = and_second (test node) (holds_below test below && holds_below test after) h in
       let inner : holds_below test below ≡ true = and_first (holds_below test below) (holds_below test after) rest in
       let outer : holds_below test after ≡ true = and_second (holds_below test below) (holds_below test after) rest in
-      let spot : Spot child child' = ((renamed_at st r node, and_from (test node) (holds_below test below) here inner), (w.0, w.1)) in
+      let spot : Spot child child' = ((changed_at st r node, and_from (test node) (holds_below test below) here inner), (w.0, w.1)) in
       let a : List Step = opening_at p r own n in
       let a' : List Step = opening_at q r new m in
       let b : List Step = steps_below child None (next_at p r own n) (on_entering k child.cursor) below in
       let b' : List Step = steps_below child' None (next_at q r new m) (on_entering k child'.cursor) node'.children in
       let e : List Step = ending_after p r own' after in
-      let e' : List Step = ending_after q r new' (renamed f st after) in
+      let e' : List Step = ending_after q r new' (changed f st after) in
       let o : List Step = steps_below p own' (next_at p r own n + cond (opens k) 1 0 + scopes_in below) (cursor_past p r c child) after in
-      let o' : List Step = steps_below q new' (next_at q r new m + cond (opens k) 1 0 + scopes_in node'.children) (cursor_past q r d child') (renamed f st after) in
+      let o' : List Step = steps_below q new' (next_at q r new m + cond (opens k) 1 0 + scopes_in node'.children) (cursor_past q r d child') (changed f st after) in
       spots_append (a ++ (entering child ∷ (b ++ leaving child ∷ [])) ++ e) (a' ++ (entering child' ∷ (b' ++ leaving child' ∷ [])) ++ e') o o'
       (spots_append (a ++ (entering child ∷ (b ++ leaving child ∷ []))) (a' ++ (entering child' ∷ (b' ++ leaving child' ∷ []))) e e'
       (spots_append a a' (entering child ∷ (b ++ leaving child ∷ [])) (entering child' ∷ (b' ++ leaving child' ∷ [])) (opening_spots p q r own new n m kinds l)
-      (tt, spots_append b b' (leaving child ∷ []) (leaving child' ∷ []) (steps_spots child child' spot None None tt (next_at p r own n) (next_at q r new m) (on_entering k child.cursor) (on_entering k child'.cursor) (setting_below st r k) below inner) (spot, tt)))
+      (spot, spots_append b b' (leaving child ∷ []) (leaving child' ∷ []) (steps_spots child child' spot None None tt (next_at p r own n) (next_at q r new m) (on_entering k child.cursor) (on_entering k child'.cursor) (setting_below st r k) below inner) (spot, tt)))
       (ending_spots p q r own' new' st after kinds level))
       (steps_spots p q w own' new' level (next_at p r own n + cond (opens k) 1 0 + scopes_in below) (next_at q r new m + cond (opens k) 1 0 + scopes_in node'.children) (cursor_past p r c child) (cursor_past q r d child') st after outer)
 
-  pub program_spots : (p : Tree) → holds_within test p.root ≡ true → Spots (steps p) (steps (renamed_tree f p))
+  pub program_spots : (p : Tree) → holds_within test p.root ≡ true → Spots (steps p) (steps (changed_tree f p))
   program_spots p h =
       let root : Place = root_place p in
-      let root' : Place = root_place (renamed_tree f p) in
-      let spot : Spot root root' = ((renamed_at Elsewhere role.Root p.root, h), tt) in
+      let root' : Place = root_place (changed_tree f p) in
+      let spot : Spot root root' = ((changed_at Elsewhere role.Root p.root, h), tt) in
       let n : ℕ = on_entering p.root.kind 0 in
-      (tt, spots_append (steps_below root None 0 n p.root.children) (steps_below root' None 0 n root'.node.children) (leaving root ∷ []) (leaving root' ∷ []) (steps_spots root root' spot None None tt 0 0 n n (setting_below Elsewhere role.Root p.root.kind) p.root.children (and_second (test p.root) (holds_below test p.root.children) h)) (spot, tt))
+      (spot, spots_append (steps_below root None 0 n p.root.children) (steps_below root' None 0 n root'.node.children) (leaving root ∷ []) (leaving root' ∷ []) (steps_spots root root' spot None None tt 0 0 n n (setting_below Elsewhere role.Root p.root.kind) p.root.children (and_second (test p.root) (holds_below test p.root.children) h)) (spot, tt))

@@ -9,7 +9,6 @@ use Rattle.semantic_kinds.specs.declared.kind.AstType.TheVariants as kind
 use Rattle.semantic_kinds.specs.declared.mark.Mark.TheVariants as mark
 use Rattle.semantic_kinds.specs.declared.role.Role.{Role}
 use Rattle.semantic_kinds.specs.declared.role.Role.TheVariants as role
-use Rattle.semantic_syntax.specs.Tables.{Name}
 use Rattle.semantic_tree.specs.Views.{is, has_text, has_child, is_child_in}
 use Rattle.semantic_tree.specs.declared.node.Node.{Node}
 use Rattle.semantic_tree.specs.declared.swap.Setting.{Setting}
@@ -18,17 +17,17 @@ use Rattle.check_model.specs.Search.{first, row_if, rows_of_some, neighbours, on
 use Rattle.check_model.specs.Sight.{Sight, SeenScope, SeenClass}
 use Rattle.check_model.specs.Super.{Verdict, allowed, allowed_unless_call, allowed_in_derived, refused, if_call, is_call_node, call_around, is_call, is_scope_of, is_element, links_between, leaves_value, is_object_method, is_method, function_verdict, scope_function_verdict, decides, kept_after, search_from, refused_row, verdict_rows, check_super}
 use Rattle.check_model.specs.Surroundings.{nodes_outward, links, node_by_id}
-use Rattle.swapped_checks.specs.SwappedSight.{IsRenamed}
+use Rattle.swapped_checks.proofs.Changed.{Change, IsChanged}
 use Rattle.swapped_checks.proofs.Pairwise.{Each, Both, OfPairs, Agree, find_each, first_each, onward_each, while_each, links_each, passes_both, some_same}
-use Rattle.swapped_checks.proofs.RenamedNodes.{kind_agrees, same_ids, same_spans, guarded, child_agrees, inner_agrees}
+use Rattle.swapped_checks.proofs.RenamedNodes.{kind_agrees, mark_agrees, same_ids, same_spans, guarded, child_agrees, inner_agrees}
 use Rattle.swapped_checks.proofs.Around.{seen, own, links_both, nodes_both}
 
-module _ (f : Name → Name) (s : Sight) (st : Setting) (r : Role) (path : List Node) (above : Each (IsRenamed f) s.path path) where
+module _ (f : Change) (s : Sight) (st : Setting) (r : Role) (path : List Node) (above : Each (IsChanged f) s.path path) where
   abbrev t : Sight
   t = seen f s st r path
 
   abbrev R : Node → Node → Type 0
-  R = IsRenamed f
+  R = IsChanged f
 
   abbrev P : Node × Node → Node × Node → Type 0
   P = OfPairs R
@@ -71,11 +70,13 @@ module _ (f : Name → Name) (s : Sight) (st : Setting) (r : Role) (path : List 
       (onward_each R (λ n. n.node_id == from) (λ n. n.node_id == from) (λ x y e. λ i. same_ids f x y e i == from) (nodes_outward s) (nodes_outward t) (own f s st r path above, above)))))
 
   object_agrees : Agree R is_object_method is_object_method
-  object_agrees = guarded f kind.ObjectProperty (λ u ms. has_mark ms mark.Method || (bytes_eq u (codes "get") || bytes_eq u (codes "set"))) refl refl
+  object_agrees a b e =
+      guarded f kind.ObjectProperty (λ u ms. has_mark ms mark.Method || (bytes_eq u (codes "get") || bytes_eq u (codes "set"))) refl refl a b e
+      (λ u h. ap (λ c. c || (bytes_eq u (codes "get") || bytes_eq u (codes "set"))) (mark_agrees f mark.Method refl a b e))
 
   -- a constructor, where it is a method
   constructed : Agree R (λ n. is kind.MethodDefinition n && has_text (codes "constructor") n) (λ n. is kind.MethodDefinition n && has_text (codes "constructor") n)
-  constructed = guarded f kind.MethodDefinition (λ u ms. bytes_eq u (codes "constructor")) refl refl
+  constructed a b e = guarded f kind.MethodDefinition (λ u ms. bytes_eq u (codes "constructor")) refl refl a b e (λ u h. refl)
 
   method_verdict : Bool → Bool → Bool → Verdict
   method_verdict m k c = if m then (if not k then allowed else (if c then allowed_in_derived else refused)) else refused

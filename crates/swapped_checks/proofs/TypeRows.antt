@@ -8,31 +8,29 @@ use Rattle.semantic_kinds.specs.declared.kind.AstType.TheVariants as kind
 use Rattle.semantic_kinds.specs.declared.mark.Mark.TheVariants as mark
 use Rattle.semantic_kinds.specs.declared.role.Role.{Role}
 use Rattle.semantic_kinds.specs.declared.role.Role.TheVariants as role
-use Rattle.semantic_syntax.specs.Tables.{Name}
 use Rattle.semantic_tree.specs.KindGroups.{is_parentheses, is_module_declaration}
-use Rattle.semantic_tree.specs.Renamed.{renamed_node}
 use Rattle.semantic_tree.specs.Unwrapped.{without_parentheses}
-use Rattle.semantic_tree.specs.Views.{is, has, has_text, has_child, all_in, child_of}
+use Rattle.semantic_tree.specs.Views.{is, has_text, has_child, all_in, child_of}
 use Rattle.semantic_tree.specs.declared.node.Node.{Node}
 use Rattle.semantic_tree.specs.declared.swap.Setting.{Setting}
 use Rattle.semantic_diagnostics.specs.Functions.{type_predicate_only_in_return_type}
-use Rattle.semantic_diagnostics.specs.Types.{infer_declaration_only_permitted_in_extends_clause, enum_member_must_have_initializer, not_allowed_namespace_declaration, not_allowed_ambient_module_declaration, nested_ambient_module_declaration, global_scope_augmentation_should_have_declare_modifier, ts_export_assignment_cannot_be_used_with_other_exports}
+use Rattle.semantic_diagnostics.specs.Types.{jsdoc_type_in_annotation, infer_declaration_only_permitted_in_extends_clause, enum_member_must_have_initializer, not_allowed_namespace_declaration, not_allowed_ambient_module_declaration, nested_ambient_module_declaration, global_scope_augmentation_should_have_declare_modifier, ts_export_assignment_cannot_be_used_with_other_exports}
 use Rattle.semantic_model.proofs.form.Clauses.{kind_is}
 use Rattle.check_model.specs.Assignments.{exports_otherwise_by, exports_otherwise, assignment_row, export_assignment_rows, block_rows}
 use Rattle.check_model.specs.Groups.{is_module_kind, is_namespace, under_namespaces}
 use Rattle.check_model.specs.Namespaces.{places, is_top, place_rows, check_ts_namespace_declaration, global_span, check_ts_global_declaration, is_module_place, is_in_module_kind, misplaced_module, check_ts_external_module_declaration}
 use Rattle.check_model.specs.Search.{rows_if, row_if, first, find_last}
 use Rattle.check_model.specs.Sight.{Sight}
-use Rattle.check_model.specs.Surroundings.{is_script}
-use Rattle.check_model.specs.Types.{jsdoc_rows, check_ts_type_annotation, is_plain_value, may_return_predicate, is_predicate_path, check_ts_type_predicate, span_holds, extends_over, check_ts_infer_type, is_countable, counts_on, last_initializer, member_rows, enum_rows, check_ts_enum_declaration}
-use Rattle.swapped_checks.specs.SwappedSight.{IsRenamed, renamed_at}
+use Rattle.check_model.specs.Surroundings.{is_script, text_under}
+use Rattle.check_model.specs.Types.{unmarked, is_at_start, jsdoc_rows, check_ts_type_annotation, is_plain_value, may_return_predicate, is_predicate_path, check_ts_type_predicate, span_holds, extends_over, check_ts_infer_type, is_countable, counts_on, last_initializer, member_rows, enum_rows, check_ts_enum_declaration}
+use Rattle.swapped_checks.proofs.Changed.{Change, changed_node, IsChanged, changed_at}
 use Rattle.swapped_checks.proofs.Pairwise.{Each, Both, Agree, any_each, find_each, filter_each, first_each, reverse_each, some_same, flat_same, after_same}
-use Rattle.swapped_checks.proofs.RenamedNodes.{kind_agrees, same_kinds, same_spans, plain_text, all_each, child_both, child_agrees, whose_agrees, unwrapped_each}
+use Rattle.swapped_checks.proofs.RenamedNodes.{kind_agrees, mark_agrees, same_kinds, same_spans, plain_text, all_each, child_both, child_agrees, whose_agrees, unwrapped_each}
 use Rattle.swapped_checks.proofs.Around.{seen, own}
 
-module _ (f : Name → Name) where
+module _ (f : Change) where
   abbrev R : Node → Node → Type 0
-  R = IsRenamed f
+  R = IsChanged f
 
   -- ---- returned types
 
@@ -43,16 +41,16 @@ module _ (f : Name → Name) where
   text_if false true x y z e h = absurd cc
 
   plain_value : (a b : Node) → R a b → is_plain_value (Some b) ≡ is_plain_value (Some a)
-  plain_value _ _ (renamed_at st r node) = go
+  plain_value _ _ (changed_at st r node) = go
     where
       a : Node
       a = node
 
       b : Node
-      b = renamed_node f st r node
+      b = changed_node f st r node
 
       e : R a b
-      e = renamed_at st r node
+      e = changed_at st r node
 
       go : is_plain_value (Some b) ≡ is_plain_value (Some a)
       go =
@@ -146,55 +144,58 @@ module _ (f : Name → Name) where
   module_kinds (x ∷ x2 ∷ xs) (y ∷ []) e = absurd e.1
   module_kinds (x ∷ x2 ∷ xs) (y ∷ y2 ∷ ys) e = λ i. kind_agrees f is_module_kind x y e.0 i || (kind_agrees f (λ k. same_kind k kind.TSModuleBlock) x y e.0 i && kind_agrees f is_module_kind x2 y2 e.1.0 i)
 
-module _ (f : Name → Name) (s : Sight) (st : Setting) (r : Role) (path : List Node) (above : Each (IsRenamed f) s.path path) where
+module _ (f : Change) (s : Sight) (st : Setting) (r : Role) (path : List Node) (above : Each (IsChanged f) s.path path) where
   abbrev t : Sight
   t = seen f s st r path
 
-  abbrev mine : IsRenamed f s.node t.node
+  abbrev mine : IsChanged f s.node t.node
   mine = own f s st r path above
 
-  types_by : (a b : Node) → IsRenamed f a b → jsdoc_rows t b.kind b ≡ jsdoc_rows s a.kind a
-  types_by _ _ (renamed_at q p node) = by node.kind
+  types_by : (a b : Node) → IsChanged f a b → jsdoc_rows t b.kind b ≡ jsdoc_rows s a.kind a
+  types_by _ _ (changed_at q p node) = by node.kind
     where
-      by : (k : AstType) → jsdoc_rows t k (renamed_node f q p node) ≡ jsdoc_rows s k node
-      by kind.JSDocNullableType = refl
-      by kind.JSDocNonNullableType = refl
+      start : is_at_start (changed_node f q p node) ≡ is_at_start node
+      start = ap not (f.kept node mark.Postfix refl)
+
+      by : (k : AstType) → jsdoc_rows t k (changed_node f q p node) ≡ jsdoc_rows s k node
+      by kind.JSDocNullableType = ap (λ c. jsdoc_type_in_annotation 63 c node.span (text_under s (unmarked c node.span) ++ codes " | null | undefined") ∷ []) start
+      by kind.JSDocNonNullableType = ap (λ c. jsdoc_type_in_annotation 33 c node.span (text_under s (unmarked c node.span)) ∷ []) start
       by _ = refl
 
   pub annotations_same : check_ts_type_annotation t ≡ check_ts_type_annotation s
-  annotations_same = some_same (IsRenamed f) (λ n. jsdoc_rows s n.kind n) (λ n. jsdoc_rows t n.kind n) types_by (child_of role.Element s.node) (child_of role.Element t.node) (child_both f role.Element s.node t.node mine)
+  annotations_same = some_same (IsChanged f) (λ n. jsdoc_rows s n.kind n) (λ n. jsdoc_rows t n.kind n) types_by (child_of role.Element s.node) (child_of role.Element t.node) (child_both f role.Element s.node t.node mine)
 
   pub predicates_same : check_ts_type_predicate t ≡ check_ts_type_predicate s
   predicates_same = ap (λ b. row_if (not b) (type_predicate_only_in_return_type s.node.span)) (predicate_path f s.path path above)
 
-  extends_agree : Agree (IsRenamed f) (extends_over s.node.span) (extends_over s.node.span)
+  extends_agree : Agree (IsChanged f) (extends_over s.node.span) (extends_over s.node.span)
   extends_agree a b e = λ i. kind_agrees f (λ k. same_kind k kind.TSConditionalType) a b e i && whose_agrees f role.Extends (λ n. span_holds n.span s.node.span) (λ n. span_holds n.span s.node.span) (λ x y h. ap (λ sp. span_holds sp s.node.span) (same_spans f x y h)) a b e i
 
   pub infers_same : check_ts_infer_type t ≡ check_ts_infer_type s
-  infers_same = ap (λ b. row_if (not b) (infer_declaration_only_permitted_in_extends_clause s.node.span)) (any_each (IsRenamed f) (extends_over s.node.span) (extends_over s.node.span) extends_agree s.path path above)
+  infers_same = ap (λ b. row_if (not b) (infer_declaration_only_permitted_in_extends_clause s.node.span)) (any_each (IsChanged f) (extends_over s.node.span) (extends_over s.node.span) extends_agree s.path path above)
 
   pub enums_same : check_ts_enum_declaration t ≡ check_ts_enum_declaration s
-  enums_same = some_same (IsRenamed f) enum_rows enum_rows (enum_same f) (child_of role.Body s.node) (child_of role.Body t.node) (child_both f role.Body s.node t.node mine)
+  enums_same = some_same (IsChanged f) enum_rows enum_rows (enum_same f) (child_of role.Body s.node) (child_of role.Body t.node) (child_both f role.Body s.node t.node mine)
 
   -- ---- namespaces
 
-  places_each : Each (IsRenamed f) (places s) (places t)
-  places_each = filter_each (IsRenamed f) (λ n. not (is_module_declaration n.kind)) (λ n. not (is_module_declaration n.kind)) (kind_agrees f (λ k. not (is_module_declaration k))) s.path path above
+  places_each : Each (IsChanged f) (places s) (places t)
+  places_each = filter_each (IsChanged f) (λ n. not (is_module_declaration n.kind)) (λ n. not (is_module_declaration n.kind)) (kind_agrees f (λ k. not (is_module_declaration k))) s.path path above
 
   place_same : place_rows t ≡ place_rows s
   place_same =
-      some_same (IsRenamed f) (λ n. row_if (not (is_top n)) (not_allowed_namespace_declaration s.node.span)) (λ n. row_if (not (is_top n)) (not_allowed_namespace_declaration s.node.span))
+      some_same (IsChanged f) (λ n. row_if (not (is_top n)) (not_allowed_namespace_declaration s.node.span)) (λ n. row_if (not (is_top n)) (not_allowed_namespace_declaration s.node.span))
       (λ x y e. ap (λ b. row_if (not b) (not_allowed_namespace_declaration s.node.span)) (kind_agrees f (λ k. same_kind k kind.Program || (same_kind k kind.TSModuleBlock || is_module_kind k)) x y e))
-      (first (places s)) (first (places t)) (first_each (IsRenamed f) (places s) (places t) places_each)
+      (first (places s)) (first (places t)) (first_each (IsChanged f) (places s) (places t) places_each)
 
   pub namespaces_same : check_ts_namespace_declaration t ≡ check_ts_namespace_declaration s
   namespaces_same = λ i. place_same i ++ block_same f (under_namespaces s.node) (under_namespaces t.node) (unwrapped_each f is_namespace role.Body s.node t.node mine) i
 
   pub globals_same : check_ts_global_declaration t ≡ check_ts_global_declaration s
-  globals_same = ap (λ rows. rows ++ row_if (not (has mark.Declare s.node || s.is_ambient)) (global_scope_augmentation_should_have_declare_modifier (global_span s))) place_same
+  globals_same = λ i. place_same i ++ row_if (not (mark_agrees f mark.Declare refl s.node t.node mine i || s.is_ambient)) (global_scope_augmentation_should_have_declare_modifier (global_span s))
 
   misplaced_same : misplaced_module t ≡ misplaced_module s
   misplaced_same = ap (λ b. if b then nested_ambient_module_declaration s.node.span else not_allowed_ambient_module_declaration s.node.span) (module_kinds f (places s) (places t) places_each)
 
   pub modules_same : check_ts_external_module_declaration t ≡ check_ts_external_module_declaration s
-  modules_same = λ i. row_if (not (module_place f (is_script s) (places s) (places t) places_each i)) (misplaced_same i) ++ some_same (IsRenamed f) block_rows block_rows (block_same f) (child_of role.Body s.node) (child_of role.Body t.node) (child_both f role.Body s.node t.node mine) i
+  modules_same = λ i. row_if (not (module_place f (is_script s) (places s) (places t) places_each i)) (misplaced_same i) ++ some_same (IsChanged f) block_rows block_rows (block_same f) (child_of role.Body s.node) (child_of role.Body t.node) (child_both f role.Body s.node t.node mine) i

@@ -1,5 +1,5 @@
 -- What rules look at, with other names.
-use Rattle.std.specs.Prelude.{◌≡◌, List, [], ◌∷◌, Bool, true, ◌||◌, map}
+use Rattle.std.specs.Prelude.{◌≡◌, List, [], ◌∷◌, Bool, true, ◌||◌, map, bytes_eq}
 use Rattle.std.specs.List.{list_all}
 use Rattle.semantic_kinds.specs.declared.kind.AstType.TheVariants as kind
 use Rattle.semantic_kinds.specs.declared.role.Role.{Role}
@@ -9,6 +9,8 @@ use Rattle.semantic_tree.specs.Renamed.{renamed_node}
 use Rattle.semantic_tree.specs.Views.{is, all_in}
 use Rattle.semantic_tree.specs.declared.node.Node.{Node}
 use Rattle.semantic_tree.specs.declared.swap.Setting.{Setting}
+use Rattle.semantic_tree.specs.BoundNames.{bound_names}
+use Rattle.semantic_model.specs.Entries.{Among}
 use Rattle.semantic_model.specs.Swap.{renamed_symbol}
 use Rattle.check_model.specs.Classes.{members}
 use Rattle.check_model.specs.Sight.{Sight}
@@ -49,3 +51,7 @@ module _ (f : Name → Name) where
     pub symbols : t.symbols ≡ map (renamed_symbol f) s.symbols
     pub others : t ≡ record s { node = t.node; path = t.path; symbols = t.symbols }
     pub strings : is kind.StringLiteral s.node ≡ true → t.node.text ≡ s.node.text
+
+-- the names that a node binds, as the parameters of a signature, are the same exactly where they were
+abbrev pub KeepsParameters : (Name → Name) → Node → Type 0
+KeepsParameters f node = (x y : Name) → Among x (map (λ name. name.text) (bound_names node)) → Among y (map (λ name. name.text) (bound_names node)) → bytes_eq (f x) (f y) ≡ bytes_eq x y

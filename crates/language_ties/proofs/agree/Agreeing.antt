@@ -2,11 +2,13 @@
 use Rattle.std.proofs.Common.{◌≡◌, ℕ, suc, List, [], ◌∷◌, ◌++◌, Option, Some, None, Bool, true, false, ◌&&◌, ◌||◌, not, cond, map, length, inl, inr, refl, sym, ap, subst, ◌∙◌, bytes_eq, codes, arith}
 use Rattle.std.specs.Prelude.{slice_get}
 use Rattle.std.proofs.lemmas.Bool.{not-true}
-use Rattle.semantic_syntax.proofs.Truth.{and_first, and_second}
+use Rattle.semantic_syntax.proofs.Truth.{and_first, and_second, and_false}
 use Rattle.semantic_kinds.specs.Classes.{holds_kind}
 use Rattle.semantic_kinds.specs.Kinds.{same_kind}
 use Rattle.semantic_kinds.specs.declared.kind.AstType.{AstType}
 use Rattle.semantic_kinds.specs.declared.kind.AstType.TheVariants as kind
+use Rattle.semantic_kinds.specs.Roles.{same_role}
+use Rattle.semantic_kinds.specs.declared.role.Role.TheVariants as role
 use Rattle.semantic_syntax.specs.Tables.{Name}
 use Rattle.semantic_tree.specs.Faults.{first_fault}
 use Rattle.semantic_tree.specs.Forest.{Forest, nothing, tree}
@@ -19,13 +21,14 @@ use Rattle.semantic_model.specs.Binding.{get}
 use Rattle.semantic_model.specs.Cursor.{on_entering}
 use Rattle.semantic_model.specs.EachStep.{EachStep}
 use Rattle.semantic_model.specs.Entries.{Among}
-use Rattle.semantic_model.specs.Event.{Event, declarations, events}
+use Rattle.semantic_model.specs.Event.{Event, declarations, events, is_catch_body}
 use Rattle.semantic_model.specs.Fold.{State, start, or_else}
 use Rattle.semantic_model.specs.Hoist.{run}
 use Rattle.semantic_model.specs.Inside.{is_inside, is_in_header}
-use Rattle.semantic_model.specs.Place.{Place, OpenScope}
+use Rattle.semantic_model.specs.Place as place
+use Rattle.semantic_model.specs.Place.{Place, OpenScope, outside, parent_holds}
 use Rattle.semantic_model.specs.Step.{Step, entering, opening, header_ending, closing, leaving, steps_below, steps, root_place}
-use Rattle.semantic_model.specs.Tie.{view_by, until_end_of}
+use Rattle.semantic_model.specs.Tie.{view, view_by, until_end_of}
 use Rattle.semantic_model.proofs.fold.BodyChains.{AllInTable, IsStepIn}
 use Rattle.semantic_model.proofs.fold.Orders.{table_of, steps_in}
 use Rattle.semantic_model.proofs.form.Clauses.{kind_is}
@@ -51,24 +54,31 @@ use Rattle.language_ties.specs.declared.environment_kind.EnvironmentKind.{Enviro
 use Rattle.language_ties.specs.declared.environment_kind.EnvironmentKind.TheVariants as environment
 use Rattle.language_ties.proofs.EnvironmentsRound.{IsKnown, KnownAt, known_program}
 use Rattle.language_ties.proofs.agree.EnteredOnce.{entered_once}
-use Rattle.language_ties.proofs.agree.FamiliarPlaces.{stands_well, is_function_kind, IsFamiliar, FamiliarAt, familiar_program}
+use Rattle.language_ties.proofs.agree.FamiliarPlaces.{stands_well, is_function_kind, AllKnown, IsFamiliar, FamiliarAt, familiar_program}
 use Rattle.language_ties.proofs.agree.FunctionKinds.{function_kinds, arrow_kinds, IsOrdinary}
 use Rattle.language_ties.proofs.agree.Identifiers.{identifier_here, meaning_further, meaning_object, meaning_here}
 use Rattle.language_ties.proofs.agree.KnownBounds.{some_is, KnownBound}
 use Rattle.language_ties.proofs.agree.KnownNodes.{node_at}
 use Rattle.language_ties.proofs.agree.MadeEnvironments.{may_make, environment_kind_is, EndsAtProgram, innermost_among}
-use Rattle.language_ties.proofs.agree.PlainBounds.{no_class, no_catch}
+use Rattle.language_ties.proofs.agree.PlainBounds.{no_class}
+use Rattle.language_ties.proofs.caught.BodyPlaces.{block_takes}
+use Rattle.language_ties.proofs.caught.CaughtBounds.{IsTakenBy, not_taken, no_block, of_clause, taken_into}
+use Rattle.language_ties.proofs.caught.ClausePlaces.{IsClauseBody, StandsInClause, IsClausal, ClausalAt, clausal_program, body_kind}
 use Rattle.language_ties.proofs.headers.ChildChains.{ChainOf, outer_chain, inner_chain, OwnOf, own_of, chain_of}
-use Rattle.language_ties.proofs.headers.HeaderAnswers.{silent, answers_too, own_answers, awaits}
+use Rattle.language_ties.proofs.headers.HeaderAnswers.{silent, answers_too, own_answers, caught_answers, caught_in_header, awaits}
 use Rattle.language_ties.proofs.headers.HeaderShape.{heads_parameters, tree_heads, header_list}
 use Rattle.language_ties.proofs.headers.Sides.{is_parameters}
 use Rattle.language_ties.proofs.own_names.AnyBounds.{AnyBound, any_bound}
 use Rattle.language_ties.proofs.own_names.OwnBounds.{IsOfExpression, OwnBound, own_maker}
 use Rattle.language_ties.proofs.own_names.OwnSymbols.{HasSymbol, class_symbol}
+use Rattle.language_ties.proofs.shared.HomesShared.{none_in_clause}
 use Rattle.language_ties.proofs.symbols.OneSymbol.{each_at}
 use Rattle.language_ties.proofs.symbols.ScopeOpeners.{openers, IsOpened, AllOpened, IsPlaceOpened, places_opened}
+use Rattle.language_ties.proofs.agree.ClauseBlocks.{body_agrees, round_child}
+use Rattle.language_ties.proofs.agree.PlaceAgreement.{outside_innermost, AllAre, Matches, Agrees, AgreesRound, AgreesBy, AgreesAt}
 use Rattle.language_ties.proofs.agree.ScopeAnswers as scopes
-use Rattle.language_ties.proofs.agree.ScopeAnswers.{arrow_rest, class_here, directly, environment_is, function, further, here, is_here, is_there, no_if_body, none_there, one, own_rest, unanswered, unusual, visible}
+use Rattle.language_ties.proofs.agree.SeenPlaces.{IsSeen, SeenAt, seen_program}
+use Rattle.language_ties.proofs.agree.ScopeAnswers.{arrow_rest, class_here, clause_block, directly, environment_is, function, further, here, is_here, is_there, no_if_body, none_there, one, own_rest, unanswered, unusual, visible}
 
 -- a list is not longer than itself
 cons_self : {A : Type 0} (x : A) (xs : List A) → x ∷ xs ≡ xs → ⊥
@@ -76,10 +86,6 @@ cons_self x xs h = let w : suc (length xs) ≡ length xs = ap length h in omega 
 
 never : true ≡ false → ⊥
 never h = absurd cc
-
-abbrev outside_innermost : List Environment → List Environment
-outside_innermost [] = []
-outside_innermost (e ∷ es) = es
 
 module _ (p : Tree) (h : first_fault p ≡ None) (e : is_ecmascript p ≡ true) (numbered : IsNumbered p.root) (x : Name) (none : IsBoundOutsideWith p x) (not_arguments : bytes_eq x (codes "arguments") ≡ false) (clear : AllKeepClear x (declarations (events (steps p)))) (plain : IsPlainName p x) where
   abbrev es : List Event
@@ -100,30 +106,11 @@ module _ (p : Tree) (h : first_fault p ≡ None) (e : is_ecmascript p ≡ true) 
   abbrev Any : Bound → Type 0
   Any b = AnyBound p h e numbered x none plain b
 
-  -- ---- agreement
-
-  abbrev AllAre : List ℕ → ℕ → Type 0
-  AllAre is s = scopes.AllAre p h e numbered x none not_arguments clear plain is s
-
-  abbrev Matches : Option ℕ → Meaning → Type 0
-  Matches o m = scopes.Matches p h e numbered x none not_arguments clear plain o m
-
   abbrev IsHere : Environment → ℕ → Type 0
   IsHere d i = scopes.IsHere p h e numbered x none not_arguments clear plain d i
 
   abbrev IsClassHere : Environment → Bound → Type 0
   IsClassHere d b = scopes.IsClassHere p h e numbered x none not_arguments clear plain d b
-
-  -- so it is at a place that stands in expressions among the parameters that bind the name
-  abbrev pub Agrees : Place → Type 0
-  Agrees q = StandsInExpressions ws x q.node q.path → Matches (nearest_symbol final es x q.chain) (meaning bs (environments q.node q.path) x)
-
-  abbrev pub AgreesAt : Step → Type 0
-  AgreesAt (entering q) = is kind.BindingIdentifier q.node ≡ false → in_with_under q.path ≡ false → Agrees q
-  AgreesAt (opening q o) = Unit {0}
-  AgreesAt (header_ending q o) = Unit {0}
-  AgreesAt (closing q o) = Unit {0}
-  AgreesAt (leaving q) = Unit {0}
 
   -- ---- a child of a place
 
@@ -135,22 +122,7 @@ module _ (p : Tree) (h : first_fault p ≡ None) (e : is_ecmascript p ≡ true) 
       go true b w = absurd (never w)
       go false b w = w
 
-  -- what is known of a place
-  pub record IsSeen (q : Place) : Type 0 where
-    pub entered : Among (entering q) (steps p)
-    pub known : IsKnown q
-    pub familiar : IsFamiliar (node_at p) q
-    pub opened : AllOpened (openers (steps p)) q.chain
-    pub in_table : AllInTable (table_of p) q.chain
-
-  abbrev pub SeenAt : Step → Type 0
-  SeenAt (entering q) = IsSeen q
-  SeenAt (opening q o) = Unit {0}
-  SeenAt (header_ending q o) = Unit {0}
-  SeenAt (closing q o) = Unit {0}
-  SeenAt (leaving q) = Unit {0}
-
-  module _ (q c : Place) (agree : Agrees q) (seen : IsSeen q) (seen_child : IsSeen c) (path : c.path ≡ q.node ∷ q.path) (well : stands_well q.node.kind c.role c.node.kind [] ≡ true) (heads : heads_parameters q.node.kind c.role c.node.kind [] ≡ true) (no_identifier : is kind.BindingIdentifier c.node ≡ false) (apart : in_with_under c.path ≡ false) where
+  module _ (q c : Place) (agree : Agrees p x q) (open_body : is_catch_body q ≡ false) (seen : IsSeen p q) (seen_child : IsSeen p c) (path : c.path ≡ q.node ∷ q.path) (well : stands_well q.node.kind c.role c.node.kind [] ≡ true) (heads : heads_parameters q.node.kind c.role c.node.kind [] ≡ true) (no_identifier : is kind.BindingIdentifier c.node ≡ false) (apart : in_with_under c.path ≡ false) (open_child : is_catch_body c ≡ false) where
     apart_here : (is kind.WithStatement q.node || in_with_under q.path) ≡ false
     apart_here = subst (λ l. in_with_under l ≡ false) path apart
 
@@ -171,7 +143,7 @@ module _ (p : Tree) (h : first_fault p ≡ None) (e : is_ecmascript p ≡ true) 
 
     -- what is to be shown of the environments that the parent makes
     abbrev Shows : List OpenScope → List Environment → Type 0
-    Shows chain ds = StandsInExpressions ws x c.node (q.node ∷ q.path) → Matches (nearest_symbol final es x chain) (meaning bs (ds ++ E) x)
+    Shows chain ds = StandsInExpressions ws x c.node (q.node ∷ q.path) → Matches p (nearest_symbol final es x chain) (meaning bs (ds ++ E) x)
 
     outer_shows : Shows q.chain []
     outer_shows = λ i. agree i.1
@@ -188,6 +160,10 @@ module _ (p : Tree) (h : first_fault p ≡ None) (e : is_ecmascript p ≡ true) 
       s_entry : slice_get (table_of p) s.number ≡ Some s.body
       s_entry = (subst (AllInTable (table_of p)) chain seen_child.in_table).0.entry
 
+      -- it takes no clause over
+      whole : (b : Bound) → IsTakenBy p b s.number → ⊥
+      whole = not_taken p numbered q seen.entered open_body s s_opened opener
+
       -- what the scope binds as its header ends
       abbrev H : Option ℕ
       H = get (run start (until_end_of s.number es)).bindings s.number x
@@ -196,16 +172,16 @@ module _ (p : Tree) (h : first_fault p ≡ None) (e : is_ecmascript p ≡ true) 
       awaited v = awaits p h e numbered x none clear plain c s seen_child.entered (subst (Among s) (sym chain) (inl refl)) no_identifier v
 
       -- in no header the scope is seen as it is in the end, in one as it stands when that ends
-      seen_by : (ds : List Environment) → (s.in_header ≡ false → Matches N (meaning bs E x) → Matches (or_else (get final.bindings s.number x) N) (meaning bs (ds ++ E) x)) → (s.in_header ≡ true → Expressed → Matches N (meaning bs E x) → Matches (or_else H N) (meaning bs (ds ++ E) x)) → Shows (s ∷ q.chain) ds
+      seen_by : (ds : List Environment) → (s.in_header ≡ false → Matches p N (meaning bs E x) → Matches p (or_else (get final.bindings s.number x) N) (meaning bs (ds ++ E) x)) → (s.in_header ≡ true → Expressed → Matches p N (meaning bs E x) → Matches p (or_else H N) (meaning bs (ds ++ E) x)) → Shows (s ∷ q.chain) ds
       seen_by ds last ends i = by s.in_header refl
         where
-          by : (t : Bool) → s.in_header ≡ t → Matches (or_else (get (view_by s.in_header final es s.number).bindings s.number x) N) (meaning bs (ds ++ E) x)
-          by false v = subst (λ b. Matches (or_else (get (view_by b final es s.number).bindings s.number x) N) (meaning bs (ds ++ E) x)) (sym v) (last v (agree i.1))
-          by true v = subst (λ b. Matches (or_else (get (view_by b final es s.number).bindings s.number x) N) (meaning bs (ds ++ E) x)) (sym v) (ends v i.0 (agree i.1))
+          by : (t : Bool) → s.in_header ≡ t → Matches p (or_else (get (view_by s.in_header final es s.number).bindings s.number x) N) (meaning bs (ds ++ E) x)
+          by false v = subst (λ b. Matches p (or_else (get (view_by b final es s.number).bindings s.number x) N) (meaning bs (ds ++ E) x)) (sym v) (last v (agree i.1))
+          by true v = subst (λ b. Matches p (or_else (get (view_by b final es s.number).bindings s.number x) N) (meaning bs (ds ++ E) x)) (sym v) (ends v i.0 (agree i.1))
 
       -- where the header sees nothing
-      unseen : (m : Meaning) → H ≡ None → Matches N m → Matches (or_else H N) m
-      unseen m g k = subst (λ t. Matches (or_else t N) m) (sym g) k
+      unseen : (m : Meaning) → H ≡ None → Matches p N m → Matches p (or_else H N) m
+      unseen m g k = subst (λ t. Matches p (or_else t N) m) (sym g) k
 
       abbrev OfOpener : Type 0
       OfOpener = scopes.IsBoundThere p h e numbered x none not_arguments clear plain s s_opened s_entry q.node opener seen.familiar.node
@@ -213,32 +189,59 @@ module _ (p : Tree) (h : first_fault p ≡ None) (e : is_ecmascript p ≡ true) 
       abbrev IsBoundBy : Bound → Type 0
       IsBoundBy b = scopes.IsThere p h e numbered x none not_arguments clear plain s s_opened s_entry q.node opener seen.familiar.node b
 
-      -- no plain name is bound by a clause
-      by_clause : ((j : EnvironmentKind) → may_make q.node.kind j ≡ true → j ≡ environment.Catch) → s.in_header ≡ true → Matches N (meaning bs E x) → Matches (or_else H N) (meaning bs (record { kind = environment.Catch; maker = q.node.node_id } ∷ E) x)
-      by_clause only v m =
-          unseen (meaning bs (Clause ∷ E) x) (silent p h e numbered x none clear plain s s_opened (awaited v) (λ b a n k body. of_clause (is_there p h e numbered x none not_arguments clear plain s s_opened s_entry q.node opener seen.familiar.node b a n (k ∙ opener)).there))
-          (subst (Matches N) (sym (meaning_further bs x not_arguments Clause E refl (nothing (identifiers_in bs Clause x) refl))) m)
-        where
-          Clause : Environment
-          Clause = record { kind = environment.Catch; maker = q.node.node_id }
+      -- what the clause binds, in its header
+      module _ (v : s.in_header ≡ true) (caught : q.node.kind ≡ kind.CatchClause) where
+        abbrev Clause : Environment
+        Clause = record { kind = environment.Catch; maker = q.node.node_id }
 
-          no_clause : (b : Bound) → Any b → b.environment ≡ Clause → ⊥
-          no_clause b k w =
-              let known : Known b = visible p h e numbered x none not_arguments clear plain Clause b k w refl refl in
-              never (sym (ap (is_made_for environment.Catch) w) ∙ no_catch b known.plainly)
+        by_clause : (w : OfOpener) → w.bind.environment ≡ Clause
+        by_clause w = environment_is p h e numbered x none not_arguments clear plain s s_opened s_entry q.node opener seen.familiar.node w environment.Catch (environment_kind_is w.bind.environment.kind environment.Catch (subst (λ a. may_make a w.bind.environment.kind ≡ true) caught w.makes))
 
-          of_clause : OfOpener → ⊥
-          of_clause w = no_clause w.bind w.known (environment_is p h e numbered x none not_arguments clear plain s s_opened s_entry q.node opener seen.familiar.node w environment.Catch (only w.bind.environment.kind w.makes))
+        no_name : (b : Bound) → OwnBound p h x b → b.environment.maker ≡ s.opener → ⊥
+        no_name b o maker =
+            let same : o.place ≡ q = entered_once p numbered o.place q o.entered seen.entered (sym (own_maker p h x b o) ∙ maker ∙ opener) in
+            go o.named_by.sort (ap (λ (z : Place). z.node.kind) same ∙ caught)
+          where
+            function : kind.Function ≡ kind.CatchClause → ⊥
+            function i = absurd cc
 
-          nothing : (is : List ℕ) → identifiers_in bs Clause x ≡ is → identifiers_in bs Clause x ≡ []
-          nothing [] k = k
-          nothing (i ∷ is) k =
-              let w : IsHere Clause i = is_here p h e numbered x none not_arguments clear plain Clause i (subst (Among i) (sym k) (inl refl)) in
-              absurd (no_clause w.bind w.known (directly p h e numbered x none not_arguments clear plain Clause i refl w))
+            class : kind.Class ≡ kind.CatchClause → ⊥
+            class i = absurd cc
 
-      one_shows : (k : EnvironmentKind) → ((j : EnvironmentKind) → may_make q.node.kind j ≡ true → j ≡ k) → IsOrdinary k → (s.in_header ≡ true → k ≡ environment.Catch) → Shows (s ∷ q.chain) (record { kind = k; maker = q.node.node_id } ∷ [])
-      one_shows k only n clause = seen_by (record { kind = k; maker = q.node.node_id } ∷ []) (λ v. one p h e numbered x none not_arguments clear plain s s_opened s_entry q.node opener seen.familiar.node k E only n N)
-          (λ v fits m. subst (λ z. Matches (or_else H N) (meaning bs (record { kind = z; maker = q.node.node_id } ∷ E) x)) (sym (clause v)) (by_clause (λ j y. only j y ∙ clause v) v m))
+            go : IsOfExpression o.place.node b.environment → o.place.node.kind ≡ kind.CatchClause → ⊥
+            go (inl w) i = function (sym w.0 ∙ i)
+            go (inr w) i = class (sym w.0 ∙ i)
+
+        caught_seen : (i : ℕ) → Among i (identifiers_in bs Clause x) → (y : ℕ) × (H ≡ Some y) × (symbol_at (analysis_of p) i ≡ Some y)
+        caught_seen i a =
+            let k : IsHere Clause i = is_here p h e numbered x none not_arguments clear plain Clause i a in
+            let there : k.bind.environment ≡ Clause = directly p h e numbered x none not_arguments clear plain Clause i refl k in
+            let known : Known k.bind = visible p h e numbered x none not_arguments clear plain Clause k.bind k.known there refl refl in
+            let maker : k.bind.environment.maker ≡ q.node.node_id = ap (λ z. z.maker) there in
+            let (y, seen_too, symbol) = caught_answers p h e numbered x none clear plain s s_opened (awaited v) whole k.bind known k.named (opener ∙ sym maker)
+            (caught_in_header p h e numbered x none clear plain k.bind k.named known (ap (is_made_for environment.Catch) there) q.node (ap (node_at p) maker ∙ seen.familiar.node) caught) no_name in
+            (y, seen_too, subst (λ j. symbol_at (analysis_of p) j ≡ Some y) k.identifier symbol)
+
+        all_caught : (y : ℕ) → H ≡ Some y → (is : List ℕ) → ((i : ℕ) → Among i is → Among i (identifiers_in bs Clause x)) → AllAre p is y
+        all_caught y g [] f = tt
+        all_caught y g (i ∷ is) f =
+            let (z, there, symbol) = caught_seen i (f i (inl refl)) in
+            (symbol ∙ ap Some (some_is z y (sym there ∙ g)), all_caught y g is (λ j a. f j (inr a)))
+
+        clause_header : Matches p N (meaning bs E x) → Matches p (or_else H N) (meaning bs (Clause ∷ E) x)
+        clause_header m = go (identifiers_in bs Clause x) refl
+          where
+            go : (is : List ℕ) → identifiers_in bs Clause x ≡ is → Matches p (or_else H N) (meaning bs (Clause ∷ E) x)
+            go [] i =
+                subst (Matches p (or_else H N)) (sym (meaning_further bs x not_arguments Clause E refl i))
+                (unseen (meaning bs E x) (silent p h e numbered x none clear plain s s_opened (awaited v) whole (λ b a n k body. (let t : IsBoundBy b = is_there p h e numbered x none not_arguments clear plain s s_opened s_entry q.node opener seen.familiar.node b a n (k ∙ opener) in none_there p h e numbered x none not_arguments clear plain s s_opened s_entry q.node opener seen.familiar.node Clause i t.there (by_clause t.there)))) m)
+            go (i ∷ is) j =
+                let (y, there, symbol) = caught_seen i (subst (Among i) (sym j) (inl refl)) in
+                subst (Matches p (or_else H N)) (sym (meaning_here bs x not_arguments Clause E i is refl j))
+                (y, ap (λ z. or_else z N) there, all_caught y there (i ∷ is) (λ k a. subst (Among k) (sym j) a))
+
+      one_shows : (k : EnvironmentKind) → ((j : EnvironmentKind) → may_make q.node.kind j ≡ true → j ≡ k) → IsOrdinary k → (s.in_header ≡ true → ⊥) → Shows (s ∷ q.chain) (record { kind = k; maker = q.node.node_id } ∷ [])
+      one_shows k only n no_header = seen_by (record { kind = k; maker = q.node.node_id } ∷ []) (λ v. one p h e numbered x none not_arguments clear plain s s_opened s_entry q.node opener seen.familiar.node whole k E only n N) (λ v fits m. absurd (no_header v))
 
       -- outside of its body's environment a child of a function stands in its header
       in_header : is_function_kind q.node.kind ≡ true → is_outside_body c.node ≡ true → s.in_header ≡ false → ⊥
@@ -265,29 +268,29 @@ module _ (p : Tree) (h : first_fault p ≡ None) (e : is_ecmascript p ≡ true) 
 
       -- in a function's header, where the parameters don't bind the name
       abbrev HeaderRest : EnvironmentKind → List Environment → Type 0
-      HeaderRest k ds = ((w : OfOpener) → w.bind.environment ≡ record { kind = k; maker = q.node.node_id } → ⊥) → Matches N (meaning bs E x) → Matches (or_else H N) (meaning bs (ds ++ E) x)
+      HeaderRest k ds = ((w : OfOpener) → w.bind.environment ≡ record { kind = k; maker = q.node.node_id } → ⊥) → Matches p N (meaning bs E x) → Matches p (or_else H N) (meaning bs (ds ++ E) x)
 
       -- a function, seen from its header
       from_header : (k : EnvironmentKind) (n : IsOrdinary k) (ds : List Environment) → is_parameters (record { kind = k; maker = q.node.node_id }) ≡ true → s.in_header ≡ true → ((b : Bound) → Among b ws → b.name ≡ x → b.environment.maker ≡ q.node.node_id → has_parameter_expressions q.node ≡ true) → HeaderRest k ds
-          → Matches N (meaning bs E x) → Matches (or_else H N) (meaning bs (record { kind = k; maker = q.node.node_id } ∷ (ds ++ E)) x)
+          → Matches p N (meaning bs E x) → Matches p (or_else H N) (meaning bs (record { kind = k; maker = q.node.node_id } ∷ (ds ++ E)) x)
       from_header k n ds parameters v fits rest m = go (identifiers_in bs Parameters x) refl
         where
           Parameters : Environment
           Parameters = record { kind = k; maker = q.node.node_id }
 
-          go : (is : List ℕ) → identifiers_in bs Parameters x ≡ is → Matches (or_else H N) (meaning bs (Parameters ∷ (ds ++ E)) x)
-          go [] i = subst (Matches (or_else H N)) (sym (meaning_further bs x not_arguments Parameters (ds ++ E) n.0 i)) (rest (λ w z. none_there p h e numbered x none not_arguments clear plain s s_opened s_entry q.node opener seen.familiar.node Parameters i w z) m)
+          go : (is : List ℕ) → identifiers_in bs Parameters x ≡ is → Matches p (or_else H N) (meaning bs (Parameters ∷ (ds ++ E)) x)
+          go [] i = subst (Matches p (or_else H N)) (sym (meaning_further bs x not_arguments Parameters (ds ++ E) n.0 i)) (rest (λ w z. none_there p h e numbered x none not_arguments clear plain s s_opened s_entry q.node opener seen.familiar.node Parameters i w z) m)
           go (i ∷ is) j =
               let w : IsHere Parameters i = is_here p h e numbered x none not_arguments clear plain Parameters i (subst (Among i) (sym j) (inl refl)) in
               let env : w.bind.environment ≡ Parameters = directly p h e numbered x none not_arguments clear plain Parameters i n.1 w in
               let known : Known w.bind = visible p h e numbered x none not_arguments clear plain Parameters w.bind w.known env n.1 n.2 in
-              let same : H ≡ get final.bindings s.number x = answers_too p h e numbered x none clear plain s s_opened (awaited v) w.bind known w.named (opener ∙ sym (ap (λ z. z.maker) env)) (subst (λ d. is_parameters d ≡ true) (sym env) parameters)
+              let same : H ≡ get final.bindings s.number x = answers_too p h e numbered x none clear plain s s_opened (awaited v) whole w.bind known w.named (opener ∙ sym (ap (λ z. z.maker) env)) (subst (λ d. is_parameters d ≡ true) (sym env) parameters)
               (λ f found. subst (λ g. has_parameter_expressions g ≡ true) (some_is q.node f (sym seen.familiar.node ∙ ap (λ d. node_at p d.maker) (sym env) ∙ found)) (fits w.bind w.among w.named (ap (λ d. d.maker) env))) in
-              subst (λ t. Matches (or_else t N) (meaning bs (Parameters ∷ (ds ++ E)) x)) (sym same) (here p h e numbered x none not_arguments clear plain s s_opened s_entry q.node opener seen.familiar.node Parameters (ds ++ E) refl n i is j N)
+              subst (λ t. Matches p (or_else t N) (meaning bs (Parameters ∷ (ds ++ E)) x)) (sym same) (here p h e numbered x none not_arguments clear plain s s_opened s_entry q.node opener seen.familiar.node Parameters (ds ++ E) refl n i is j N)
 
       -- an arrow has no other environment, a function that of its name
       arrow_header : q.node.kind ≡ kind.ArrowFunctionExpression → s.in_header ≡ true → HeaderRest environment.ArrowParameters []
-      arrow_header w v no_parameters m = unseen (meaning bs E x) (silent p h e numbered x none clear plain s s_opened (awaited v) (λ b a n k body. by b body (is_there p h e numbered x none not_arguments clear plain s s_opened s_entry q.node opener seen.familiar.node b a n (k ∙ opener)))) m
+      arrow_header w v no_parameters m = unseen (meaning bs E x) (silent p h e numbered x none clear plain s s_opened (awaited v) whole (λ b a n k body. by b body (is_there p h e numbered x none not_arguments clear plain s s_opened s_entry q.node opener seen.familiar.node b a n (k ∙ opener)))) m
         where
           by : (b : Bound) → is_made_for environment.Body b.environment ≡ false → IsBoundBy b → ⊥
           by b body t = elim (arrow_kinds t.there.bind.environment.kind (subst (λ a. may_make a t.there.bind.environment.kind ≡ true) w t.there.makes)) [
@@ -330,37 +333,37 @@ module _ (p : Tree) (h : first_fault p ≡ None) (e : is_ecmascript p ≡ true) 
               | inr own ↦ (let maker : own.place.node.node_id ≡ q.node.node_id = sym (own_maker p h x k.bind own) ∙ ap (λ z. z.maker) there in
                   let familiar : IsFamiliar (node_at p) own.place = each_at (FamiliarAt (node_at p)) (steps p) (entering own.place) (familiar_program p h e numbered) own.entered in
                   let same : own.place.node ≡ q.node = some_is own.place.node q.node (sym familiar.node ∙ ap (node_at p) maker ∙ seen.familiar.node) in
-                  let (y, is_there_too, symbol) = own_answers p h e numbered x none clear plain s s_opened (awaited v) k.bind own (opener ∙ sym maker) (ap (λ z. z.kind) same ∙ w) own_apart in
+                  let (y, is_there_too, symbol) = own_answers p h e numbered x none clear plain s s_opened (awaited v) whole k.bind own (opener ∙ sym maker) (ap (λ z. z.kind) same ∙ w) own_apart in
                   (y, is_there_too, subst (λ j. symbol_at (analysis_of p) j ≡ Some y) k.identifier symbol))
             ]
 
-        all_seen : (y : ℕ) → H ≡ Some y → (is : List ℕ) → ((i : ℕ) → Among i is → Among i (identifiers_in bs HeaderName x)) → AllAre is y
+        all_seen : (y : ℕ) → H ≡ Some y → (is : List ℕ) → ((i : ℕ) → Among i is → Among i (identifiers_in bs HeaderName x)) → AllAre p is y
         all_seen y g [] f = tt
         all_seen y g (i ∷ is) f =
             let (z, there, symbol) = own_seen i (f i (inl refl)) in
             (symbol ∙ ap Some (some_is z y (sym there ∙ g)), all_seen y g is (λ j a. f j (inr a)))
 
-        own_header : Matches N (meaning bs E x) → Matches (or_else H N) (meaning bs (HeaderName ∷ E) x)
+        own_header : Matches p N (meaning bs E x) → Matches p (or_else H N) (meaning bs (HeaderName ∷ E) x)
         own_header m = go (identifiers_in bs HeaderName x) refl
           where
-            go : (is : List ℕ) → identifiers_in bs HeaderName x ≡ is → Matches (or_else H N) (meaning bs (HeaderName ∷ E) x)
+            go : (is : List ℕ) → identifiers_in bs HeaderName x ≡ is → Matches p (or_else H N) (meaning bs (HeaderName ∷ E) x)
             go [] i =
-                subst (Matches (or_else H N)) (sym (meaning_further bs x not_arguments HeaderName E refl i))
-                (unseen (meaning bs E x) (silent p h e numbered x none clear plain s s_opened (awaited v) (λ b a n k body. (let t : IsBoundBy b = is_there p h e numbered x none not_arguments clear plain s s_opened s_entry q.node opener seen.familiar.node b a n (k ∙ opener) in none_there p h e numbered x none not_arguments clear plain s s_opened s_entry q.node opener seen.familiar.node HeaderName i t.there (named_alone b body t)))) m)
+                subst (Matches p (or_else H N)) (sym (meaning_further bs x not_arguments HeaderName E refl i))
+                (unseen (meaning bs E x) (silent p h e numbered x none clear plain s s_opened (awaited v) whole (λ b a n k body. (let t : IsBoundBy b = is_there p h e numbered x none not_arguments clear plain s s_opened s_entry q.node opener seen.familiar.node b a n (k ∙ opener) in none_there p h e numbered x none not_arguments clear plain s s_opened s_entry q.node opener seen.familiar.node HeaderName i t.there (named_alone b body t)))) m)
             go (i ∷ is) j =
                 let (y, there, symbol) = own_seen i (subst (Among i) (sym j) (inl refl)) in
-                subst (Matches (or_else H N)) (sym (meaning_here bs x not_arguments HeaderName E i is refl j))
+                subst (Matches p (or_else H N)) (sym (meaning_here bs x not_arguments HeaderName E i is refl j))
                 (y, ap (λ z. or_else z N) there, all_seen y there (i ∷ is) (λ k a. subst (Among k) (sym j) a))
 
       function_shows : (k : EnvironmentKind) (n : IsOrdinary k) (ds : List Environment) → is_function_kind q.node.kind ≡ true → is_parameters (record { kind = k; maker = q.node.node_id }) ≡ true
-          → (Matches N (meaning bs E x) → scopes.Rest p h e numbered x none not_arguments clear plain s s_opened s_entry q.node opener seen.familiar.node k n N (ds ++ E)) → (s.in_header ≡ true → HeaderRest k ds)
+          → (Matches p N (meaning bs E x) → scopes.Rest p h e numbered x none not_arguments clear plain s s_opened s_entry q.node opener seen.familiar.node whole k n N (ds ++ E)) → (s.in_header ≡ true → HeaderRest k ds)
           → Shows (s ∷ q.chain) (cond (not (is_outside_body c.node) && has_parameter_expressions q.node) (record { kind = environment.Body; maker = q.node.node_id } ∷ []) [] ++ (record { kind = k; maker = q.node.node_id } ∷ ds))
       function_shows k n ds f parameters rest header_rest =
           seen_by (cond (not (is_outside_body c.node) && has_parameter_expressions q.node) (record { kind = environment.Body; maker = q.node.node_id } ∷ []) [] ++ (record { kind = k; maker = q.node.node_id } ∷ ds)) (λ last m.
-          subst (λ es. Matches (or_else (get final.bindings s.number x) N) (meaning bs es x)) (reassociated (not (is_outside_body c.node) && has_parameter_expressions q.node))
-          (function p h e numbered x none not_arguments clear plain s s_opened s_entry q.node opener seen.familiar.node k n N
+          subst (λ es. Matches p (or_else (get final.bindings s.number x) N) (meaning bs es x)) (reassociated (not (is_outside_body c.node) && has_parameter_expressions q.node))
+          (function p h e numbered x none not_arguments clear plain s s_opened s_entry q.node opener seen.familiar.node whole k n N
           (not (is_outside_body c.node) && has_parameter_expressions q.node) (ds ++ E) (absent (is_outside_body c.node) refl last) (rest m)))
-          (λ v fits m. subst (λ t. Matches (or_else H N) (meaning bs ((cond (not t && has_parameter_expressions q.node) (record { kind = environment.Body; maker = q.node.node_id } ∷ []) [] ++ (record { kind = k; maker = q.node.node_id } ∷ ds)) ++ E) x)) (sym (list_outside (list f v)))
+          (λ v fits m. subst (λ t. Matches p (or_else H N) (meaning bs ((cond (not t && has_parameter_expressions q.node) (record { kind = environment.Body; maker = q.node.node_id } ∷ []) [] ++ (record { kind = k; maker = q.node.node_id } ∷ ds)) ++ E) x)) (sym (list_outside (list f v)))
           (from_header k n ds parameters v (fits (list f v)) (header_rest v) m))
         where
           reassociated : (t : Bool) → cond t (record { kind = environment.Body; maker = q.node.node_id } ∷ []) [] ++ (record { kind = k; maker = q.node.node_id } ∷ (ds ++ E)) ≡ (cond t (record { kind = environment.Body; maker = q.node.node_id } ∷ []) [] ++ (record { kind = k; maker = q.node.node_id } ∷ ds)) ++ E
@@ -395,16 +398,16 @@ module _ (p : Tree) (h : first_fault p ≡ None) (e : is_ecmascript p ≡ true) 
         go _ v (inner_chain s i o j) = absurd (no_maker s v none_made)
 
     -- or one with a scope
-    one_case : (k : AstType) (n : EnvironmentKind) → q.node.kind ≡ k → made_by k q.node c.node ≡ record { kind = n; maker = q.node.node_id } ∷ [] → ((m : ℕ) → has_scope (record { kind = n; maker = m }) ≡ true) → ((j : EnvironmentKind) → may_make k j ≡ true → j ≡ n) → IsOrdinary n → (is_in_header k c.role ≡ true → n ≡ environment.Catch)
+    one_case : (k : AstType) (n : EnvironmentKind) → q.node.kind ≡ k → made_by k q.node c.node ≡ record { kind = n; maker = q.node.node_id } ∷ [] → ((m : ℕ) → has_scope (record { kind = n; maker = m }) ≡ true) → ((j : EnvironmentKind) → may_make k j ≡ true → j ≡ n) → IsOrdinary n → (is_in_header k c.role ≡ true → ⊥)
         → ChainOf q.node.kind c.role q.node q.chain c.chain → Shows c.chain (record { kind = n; maker = q.node.node_id } ∷ [])
-    one_case k n w m scoped only object clause t = go c.chain refl t
+    one_case k n w m scoped only object no_header t = go c.chain refl t
       where
         one_made : makers (made_by q.node.kind q.node c.node ++ E) ≡ maker_of_environment (record { kind = n; maker = q.node.node_id }) ∷ M
         one_made = ap (λ j. makers (made_by j q.node c.node ++ E)) w ∙ ap (λ ds. makers (ds ++ E)) m ∙ ap (λ b. cond b (maker_of_environment (record { kind = n; maker = q.node.node_id }) ∷ M) M) (scoped q.node.node_id)
 
         go : (chain : List OpenScope) → c.chain ≡ chain → ChainOf q.node.kind c.role q.node q.chain chain → Shows chain (record { kind = n; maker = q.node.node_id } ∷ [])
         go _ v (outer_chain i) = absurd (a_maker (record { kind = n; maker = q.node.node_id }) v one_made)
-        go _ v (inner_chain s i o j) = one_shows s o j v n (λ z y. only z (subst (λ a. may_make a z ≡ true) w y)) object (λ u. clause (sym (ap (λ a. is_in_header a c.role) w) ∙ sym j ∙ u))
+        go _ v (inner_chain s i o j) = one_shows s o j v n (λ z y. only z (subst (λ a. may_make a z ≡ true) w y)) object (λ u. no_header (sym (ap (λ a. is_in_header a c.role) w) ∙ sym j ∙ u))
 
     function_case : q.node.kind ≡ kind.Function → ChainOf q.node.kind c.role q.node q.chain c.chain → Shows c.chain (made_by kind.Function q.node c.node)
     function_case w t = go c.chain refl t
@@ -412,8 +415,8 @@ module _ (p : Tree) (h : first_fault p ≡ None) (e : is_ecmascript p ≡ true) 
         go : (chain : List OpenScope) → c.chain ≡ chain → ChainOf q.node.kind c.role q.node q.chain chain → Shows chain (made_by kind.Function q.node c.node)
         go _ v (outer_chain i) = absurd (never (subst (λ a. is_inside a c.role ≡ false) w i))
         go _ v (inner_chain s i o j) =
-            function_shows s o j v environment.Parameters (refl, refl, refl) (record { kind = environment.OwnName; maker = q.node.node_id } ∷ []) (subst (λ a. is_function_kind a ≡ true) (sym w) refl) refl
-            (own_rest p h e numbered x none not_arguments clear plain s (s_opened s o j v) (s_entry s o j v) q.node o seen.familiar.node w N E) (λ u none m. own_header s o j v w u none m)
+            function_shows s o j v environment.Parameters (refl, refl, refl, refl) (record { kind = environment.OwnName; maker = q.node.node_id } ∷ []) (subst (λ a. is_function_kind a ≡ true) (sym w) refl) refl
+            (own_rest p h e numbered x none not_arguments clear plain s (s_opened s o j v) (s_entry s o j v) q.node o seen.familiar.node (whole s o j v) w N E) (λ u none m. own_header s o j v w u none m)
 
     arrow_case : q.node.kind ≡ kind.ArrowFunctionExpression → ChainOf q.node.kind c.role q.node q.chain c.chain → Shows c.chain (made_by kind.ArrowFunctionExpression q.node c.node)
     arrow_case w t = go c.chain refl t
@@ -421,15 +424,15 @@ module _ (p : Tree) (h : first_fault p ≡ None) (e : is_ecmascript p ≡ true) 
         go : (chain : List OpenScope) → c.chain ≡ chain → ChainOf q.node.kind c.role q.node q.chain chain → Shows chain (made_by kind.ArrowFunctionExpression q.node c.node)
         go _ v (outer_chain i) = absurd (never (subst (λ a. is_inside a c.role ≡ false) w i))
         go _ v (inner_chain s i o j) =
-            function_shows s o j v environment.ArrowParameters (refl, refl, refl) [] (subst (λ a. is_function_kind a ≡ true) (sym w) refl) refl
-            (arrow_rest p h e numbered x none not_arguments clear plain s (s_opened s o j v) (s_entry s o j v) q.node o seen.familiar.node w N E) (λ u none m. arrow_header s o j v w u none m)
+            function_shows s o j v environment.ArrowParameters (refl, refl, refl, refl) [] (subst (λ a. is_function_kind a ≡ true) (sym w) refl) refl
+            (arrow_rest p h e numbered x none not_arguments clear plain s (s_opened s o j v) (s_entry s o j v) q.node o seen.familiar.node (whole s o j v) w N E) (λ u none m. arrow_header s o j v w u none m)
 
     -- the body of an `if` opens no scope, and no plain name is of its environment
     if_case : q.node.kind ≡ kind.IfStatement → ChainOf q.node.kind c.role q.node q.chain c.chain → Shows c.chain (made_by kind.IfStatement q.node c.node)
     if_case w t = by (is kind.Function c.node && is_statement c.node) refl
       where
         outer : (chain : List OpenScope) → ChainOf q.node.kind c.role q.node q.chain chain → Shows chain (record { kind = environment.IfBody; maker = c.node.node_id } ∷ [])
-        outer _ (outer_chain i) = λ j. subst (Matches N) (sym (meaning_further bs x not_arguments (record { kind = environment.IfBody; maker = c.node.node_id }) E refl (unusual p h e numbered x none not_arguments clear plain c.node.node_id))) (agree j.1)
+        outer _ (outer_chain i) = λ j. subst (Matches p N) (sym (meaning_further bs x not_arguments (record { kind = environment.IfBody; maker = c.node.node_id }) E refl (unusual p h e numbered x none not_arguments clear plain c.node.node_id))) (agree j.1)
         outer _ (inner_chain s i o j) = absurd (never (sym (subst (λ a. is_inside a c.role ≡ true) w i)))
 
         by : (b : Bool) → (is kind.Function c.node && is_statement c.node) ≡ b → Shows c.chain (cond b (record { kind = environment.IfBody; maker = c.node.node_id } ∷ []) [])
@@ -440,7 +443,7 @@ module _ (p : Tree) (h : first_fault p ≡ None) (e : is_ecmascript p ≡ true) 
     switch_case w t = by (is kind.SwitchCase c.node) refl
       where
         by : (b : Bool) → is kind.SwitchCase c.node ≡ b → Shows c.chain (cond b (record { kind = environment.Block; maker = q.node.node_id } ∷ []) [])
-        by true v = one_case kind.SwitchStatement environment.Block w (ap (λ b. cond b (record { kind = environment.Block; maker = q.node.node_id } ∷ []) []) v) (λ m. refl) (λ j y. environment_kind_is j environment.Block y) (refl, refl, refl) (λ u. absurd (never (sym u))) t
+        by true v = one_case kind.SwitchStatement environment.Block w (ap (λ b. cond b (record { kind = environment.Block; maker = q.node.node_id } ∷ []) []) v) (λ m. refl) (λ j y. environment_kind_is j environment.Block y) (refl, refl, refl, refl) (λ u. absurd (never (sym u))) t
         by false v = none_case kind.SwitchStatement w (ap (λ b. cond b (record { kind = environment.Block; maker = q.node.node_id } ∷ []) []) v) t
 
     -- inside the declaration of a class its name means what it means around; an expression's scope binds it, and nothing else is bound there
@@ -459,23 +462,23 @@ module _ (p : Tree) (h : first_fault p ≡ None) (e : is_ecmascript p ≡ true) 
           go [] k a = absurd a
           go (d ∷ ds) k a = ap (λ z. z ∷ ds) k
 
-      all_among : (is : List ℕ) (s : ℕ) (j : ℕ) → AllAre is s → Among j is → symbol_at (analysis_of p) j ≡ Some s
+      all_among : (is : List ℕ) (s : ℕ) (j : ℕ) → AllAre p is s → Among j is → symbol_at (analysis_of p) j ≡ Some s
       all_among [] s j k a = absurd a
       all_among (i ∷ is) s j k (inl v) = subst (λ z. symbol_at (analysis_of p) z ≡ Some s) v k.0
       all_among (i ∷ is) s j k (inr a) = all_among is s j k.1 a
 
       -- around the class the name has the symbol of each identifier that is there
-      symbol_around : (d : Environment) (ds : List Environment) (j : ℕ) → Among j (identifiers_in bs d x) → Matches N (meaning bs (d ∷ ds) x) → (y : ℕ) × (N ≡ Some y) × (symbol_at (analysis_of p) j ≡ Some y)
+      symbol_around : (d : Environment) (ds : List Environment) (j : ℕ) → Among j (identifiers_in bs d x) → Matches p N (meaning bs (d ∷ ds) x) → (y : ℕ) × (N ≡ Some y) × (symbol_at (analysis_of p) j ≡ Some y)
       symbol_around d ds j a m = by (is_made_for environment.Object d) refl
         where
           by : (t : Bool) → is_made_for environment.Object d ≡ t → (y : ℕ) × (N ≡ Some y) × (symbol_at (analysis_of p) j ≡ Some y)
-          by true o = absurd (subst (Matches N) (meaning_object bs x not_arguments d ds o) m)
+          by true o = absurd (subst (Matches p N) (meaning_object bs x not_arguments d ds o) m)
           by false o = go (identifiers_in bs d x) refl
             where
               go : (is : List ℕ) → identifiers_in bs d x ≡ is → (y : ℕ) × (N ≡ Some y) × (symbol_at (analysis_of p) j ≡ Some y)
               go [] v = absurd (subst (Among j) v a)
               go (i ∷ is) v =
-                  let (y, there, all) = subst (Matches N) (meaning_here bs x not_arguments d ds i is o v) m in
+                  let (y, there, all) = subst (Matches p N) (meaning_here bs x not_arguments d ds i is o v) m in
                   (y, there, all_among (i ∷ is) y j all (subst (Among j) v a))
 
       -- the declaration of a class and an expression's own name are never of one node
@@ -492,7 +495,7 @@ module _ (p : Tree) (h : first_fault p ≡ None) (e : is_ecmascript p ≡ true) 
       abbrev NoOwn : Type 0
       NoOwn = (c : Bound) → OwnBound p h x c → c.environment ≡ Inside → ⊥
 
-      symbol_inside : NoOwn → Matches N (meaning bs E x) → (j : ℕ) → Among j (identifiers_in bs Inside x) → (y : ℕ) × (N ≡ Some y) × (symbol_at (analysis_of p) j ≡ Some y)
+      symbol_inside : NoOwn → Matches p N (meaning bs E x) → (j : ℕ) → Among j (identifiers_in bs Inside x) → (y : ℕ) × (N ≡ Some y) × (symbol_at (analysis_of p) j ≡ Some y)
       symbol_inside no_own m j a =
           let here_is : IsHere Inside j = is_here p h e numbered x none not_arguments clear plain Inside j a in
           elim here_is.there [
@@ -506,18 +509,18 @@ module _ (p : Tree) (h : first_fault p ≡ None) (e : is_ecmascript p ≡ true) 
               let env : k.bind.environment ≡ innermost E = u.class.around ∙ ap (λ r. innermost (environments r.node r.path)) same in
               let first : (k.bind.environment ∷ outside_innermost E) ≡ E = inner_first k.bind env q.path refl in
               let identifier : Among j (identifiers_in bs k.bind.environment x) = subst (λ z. Among z (identifiers_in bs k.bind.environment x)) k.identifier (identifier_here ws x k.bind.environment ws k.bind k.among k.named refl) in
-              symbol_around k.bind.environment (outside_innermost E) j identifier (subst (λ es. Matches N (meaning bs es x)) (sym first) m)
+              symbol_around k.bind.environment (outside_innermost E) j identifier (subst (λ es. Matches p N (meaning bs es x)) (sym first) m)
 
-      all_inside : NoOwn → Matches N (meaning bs E x) → (y : ℕ) → N ≡ Some y → (is : List ℕ) → ((j : ℕ) → Among j is → Among j (identifiers_in bs Inside x)) → AllAre is y
+      all_inside : NoOwn → Matches p N (meaning bs E x) → (y : ℕ) → N ≡ Some y → (is : List ℕ) → ((j : ℕ) → Among j is → Among j (identifiers_in bs Inside x)) → AllAre p is y
       all_inside no_own m y g [] f = tt
       all_inside no_own m y g (i ∷ is) f =
           let (z, there, symbol) = symbol_inside no_own m i (f i (inl refl)) in
           (symbol ∙ ap Some (some_is z y (sym there ∙ g)), all_inside no_own m y g is (λ j a. f j (inr a)))
 
-      inside_shows : NoOwn → Matches N (meaning bs E x) → (i : ℕ) (is : List ℕ) → identifiers_in bs Inside x ≡ i ∷ is → Matches N (meaning bs (Inside ∷ E) x)
+      inside_shows : NoOwn → Matches p N (meaning bs E x) → (i : ℕ) (is : List ℕ) → identifiers_in bs Inside x ≡ i ∷ is → Matches p N (meaning bs (Inside ∷ E) x)
       inside_shows no_own m i is v =
           let (y, there, symbol) = symbol_inside no_own m i (subst (Among i) (sym v) (inl refl)) in
-          subst (Matches N) (sym (meaning_here bs x not_arguments Inside E i is refl v)) (y, there, all_inside no_own m y there (i ∷ is) (λ j a. subst (Among j) (sym v) a))
+          subst (Matches p N) (sym (meaning_here bs x not_arguments Inside E i is refl v)) (y, there, all_inside no_own m y there (i ∷ is) (λ j a. subst (Among j) (sym v) a))
 
       -- ---- the scope
 
@@ -538,7 +541,7 @@ module _ (p : Tree) (h : first_fault p ≡ None) (e : is_ecmascript p ≡ true) 
         there_inside v = environment_is p h e numbered x none not_arguments clear plain s opened entry q.node o seen.familiar.node v environment.Class (environment_kind_is v.bind.environment.kind environment.Class (subst (λ a. may_make a v.bind.environment.kind ≡ true) w v.makes))
 
         unbound_there : (There → ⊥) → Answer ≡ None
-        unbound_there n = unanswered p h e numbered x none not_arguments clear plain s opened entry q.node o seen.familiar.node n
+        unbound_there n = unanswered p h e numbered x none not_arguments clear plain s opened entry q.node o seen.familiar.node (not_taken p numbered q seen.entered open_body s opened o) n
 
         of_class : (b : Bound) (k : OwnBound p h x b) → b.environment ≡ Inside → is kind.Function k.place.node ≡ false
         of_class b k v = go k.named_by.sort
@@ -551,7 +554,7 @@ module _ (p : Tree) (h : first_fault p ≡ None) (e : is_ecmascript p ≡ true) 
         own_symbol_of i k own v = subst (HasSymbol p h e numbered x none clear plain s) k.identifier
             (class_symbol p h e numbered x none clear plain s opened entry k.bind own (o ∙ sym (ap (λ z. z.maker) v) ∙ own_maker p h x k.bind own) (of_class k.bind own v))
 
-        all_own_inside : (b : Bound) → OwnBound p h x b → b.environment ≡ Inside → (y : ℕ) → Answer ≡ Some y → (is : List ℕ) → ((j : ℕ) → Among j is → Among j (identifiers_in bs Inside x)) → AllAre is y
+        all_own_inside : (b : Bound) → OwnBound p h x b → b.environment ≡ Inside → (y : ℕ) → Answer ≡ Some y → (is : List ℕ) → ((j : ℕ) → Among j is → Among j (identifiers_in bs Inside x)) → AllAre p is y
         all_own_inside b own v y g [] f = tt
         all_own_inside b own v y g (i ∷ is) f = (one (is_here p h e numbered x none not_arguments clear plain Inside i (f i (inl refl))), all_own_inside b own v y g is (λ j a. f j (inr a)))
           where
@@ -564,13 +567,13 @@ module _ (p : Tree) (h : first_fault p ≡ None) (e : is_ecmascript p ≡ true) 
               ]
             ]
 
-        class_shows : Matches N (meaning bs E x) → Matches (or_else Answer N) (meaning bs (Inside ∷ E) x)
+        class_shows : Matches p N (meaning bs E x) → Matches p (or_else Answer N) (meaning bs (Inside ∷ E) x)
         class_shows m = go (identifiers_in bs Inside x) refl
           where
-            around : Answer ≡ None → (n : Meaning) → Matches N n → Matches (or_else Answer N) n
+            around : Answer ≡ None → (n : Meaning) → Matches p N n → Matches p (or_else Answer N) n
             around g n k = further p h e numbered x none not_arguments clear plain s opened entry q.node o seen.familiar.node N n g k
 
-            by : (i : ℕ) (is : List ℕ) → identifiers_in bs Inside x ≡ i ∷ is → IsHere Inside i → Matches (or_else Answer N) (meaning bs (Inside ∷ E) x)
+            by : (i : ℕ) (is : List ℕ) → identifiers_in bs Inside x ≡ i ∷ is → IsHere Inside i → Matches p (or_else Answer N) (meaning bs (Inside ∷ E) x)
             by i is v k = elim k.there [
               | inr also ↦ (let declared : IsClassHere Inside k.bind = class_here p h e numbered x none not_arguments clear plain Inside k.bind k.known also in
                   around (unbound_there (λ z. elim z.known [ inl known ↦ not_declared z.bind known (there_inside z) | inr own ↦ not_both k.bind z.bind declared own (there_inside z) ]))
@@ -578,13 +581,13 @@ module _ (p : Tree) (h : first_fault p ≡ None) (e : is_ecmascript p ≡ true) 
               | inl z ↦ elim k.known [
                 | inl known ↦ absurd (not_declared k.bind known z)
                 | inr own ↦ (let u : HasSymbol p h e numbered x none clear plain s i = own_symbol_of i k own z in
-                    subst (Matches (or_else Answer N)) (sym (meaning_here bs x not_arguments Inside E i is refl v))
+                    subst (Matches p (or_else Answer N)) (sym (meaning_here bs x not_arguments Inside E i is refl v))
                     (u.symbol, ap (λ t. or_else t N) u.bound, all_own_inside k.bind own z u.symbol u.bound (i ∷ is) (λ j a. subst (Among j) (sym v) a)))
               ]
             ]
 
-            go : (is : List ℕ) → identifiers_in bs Inside x ≡ is → Matches (or_else Answer N) (meaning bs (Inside ∷ E) x)
-            go [] v = subst (Matches (or_else Answer N)) (sym (meaning_further bs x not_arguments Inside E refl v))
+            go : (is : List ℕ) → identifiers_in bs Inside x ≡ is → Matches p (or_else Answer N) (meaning bs (Inside ∷ E) x)
+            go [] v = subst (Matches p (or_else Answer N)) (sym (meaning_further bs x not_arguments Inside E refl v))
                 (around (unbound_there (λ z. none_there p h e numbered x none not_arguments clear plain s opened entry q.node o seen.familiar.node Inside v z (there_inside z))) (meaning bs E x) m)
             go (i ∷ is) v = by i is v (is_here p h e numbered x none not_arguments clear plain Inside i (subst (Among i) (sym v) (inl refl)))
 
@@ -599,62 +602,103 @@ module _ (p : Tree) (h : first_fault p ≡ None) (e : is_ecmascript p ≡ true) 
         by true v = none_case kind.Class w (ap (λ b. cond b [] (record { kind = environment.Class; maker = q.node.node_id } ∷ [])) v) t
         by false v = class_round w c.chain refl t
 
+    -- what a clause holds besides its body stands in its header
+    clause_case : q.node.kind ≡ kind.CatchClause → ChainOf q.node.kind c.role q.node q.chain c.chain → Shows c.chain (made_by kind.CatchClause q.node c.node)
+    clause_case w t = go c.chain refl t
+      where
+        go : (chain : List OpenScope) → c.chain ≡ chain → ChainOf q.node.kind c.role q.node q.chain chain → Shows chain (made_by kind.CatchClause q.node c.node)
+        go _ v (outer_chain i) = absurd (never (subst (λ a. is_inside a c.role ≡ false) w i))
+        go _ v (inner_chain s i o j) =
+            let clausal : StandsInClause (node_at p) c s = subst (λ l. StandsInClause (node_at p) c (place.innermost l)) v seen_child.clausal.stands in
+            elim (clausal q.node (ap (node_at p) o ∙ seen.familiar.node) w) [
+              | inl header ↦ seen_by s o j v (record { kind = environment.Catch; maker = q.node.node_id } ∷ []) (λ last m. absurd (never (sym header ∙ last))) (λ u fits m. clause_header s o j v u w m)
+              | inr body ↦ absurd (never (sym body ∙ open_child))
+            ]
+
     never_with : q.node.kind ≡ kind.WithStatement → ⊥
     never_with w =
         let there : is kind.WithStatement q.node ≡ true = subst (λ a. same_kind a kind.WithStatement ≡ true) (sym w) refl in
         never (sym (ap (λ b. b || in_with_under q.path) there) ∙ apart_here)
 
     by_kind : (k : AstType) → q.node.kind ≡ k → ChainOf q.node.kind c.role q.node q.chain c.chain → Shows c.chain (made_by k q.node c.node)
-    by_kind kind.Program w t = one_case kind.Program environment.Global w refl (λ m. refl) (λ j y. environment_kind_is j environment.Global y) (refl, refl, refl) (λ u. absurd (never (sym u))) t
+    by_kind kind.Program w t = one_case kind.Program environment.Global w refl (λ m. refl) (λ j y. environment_kind_is j environment.Global y) (refl, refl, refl, refl) (λ u. absurd (never (sym u))) t
     by_kind kind.Function w t = function_case w t
     by_kind kind.ArrowFunctionExpression w t = arrow_case w t
-    by_kind kind.StaticBlock w t = one_case kind.StaticBlock environment.StaticBlock w refl (λ m. refl) (λ j y. environment_kind_is j environment.StaticBlock y) (refl, refl, refl) (λ u. absurd (never (sym u))) t
-    by_kind kind.BlockStatement w t = one_case kind.BlockStatement environment.Block w refl (λ m. refl) (λ j y. environment_kind_is j environment.Block y) (refl, refl, refl) (λ u. absurd (never (sym u))) t
+    by_kind kind.StaticBlock w t = one_case kind.StaticBlock environment.StaticBlock w refl (λ m. refl) (λ j y. environment_kind_is j environment.StaticBlock y) (refl, refl, refl, refl) (λ u. absurd (never (sym u))) t
+    by_kind kind.BlockStatement w t = one_case kind.BlockStatement environment.Block w refl (λ m. refl) (λ j y. environment_kind_is j environment.Block y) (refl, refl, refl, refl) (λ u. absurd (never (sym u))) t
     by_kind kind.SwitchStatement w t = switch_case w t
     by_kind kind.IfStatement w t = if_case w t
-    by_kind kind.ForStatement w t = one_case kind.ForStatement environment.Loop w refl (λ m. refl) (λ j y. environment_kind_is j environment.Loop y) (refl, refl, refl) (λ u. absurd (never (sym u))) t
-    by_kind kind.ForInStatement w t = one_case kind.ForInStatement environment.Loop w refl (λ m. refl) (λ j y. environment_kind_is j environment.Loop y) (refl, refl, refl) (λ u. absurd (never (sym u))) t
-    by_kind kind.ForOfStatement w t = one_case kind.ForOfStatement environment.Loop w refl (λ m. refl) (λ j y. environment_kind_is j environment.Loop y) (refl, refl, refl) (λ u. absurd (never (sym u))) t
-    by_kind kind.CatchClause w t = one_case kind.CatchClause environment.Catch w refl (λ m. refl) (λ j y. environment_kind_is j environment.Catch y) (refl, refl, refl) (λ u. refl) t
+    by_kind kind.ForStatement w t = one_case kind.ForStatement environment.Loop w refl (λ m. refl) (λ j y. environment_kind_is j environment.Loop y) (refl, refl, refl, refl) (λ u. absurd (never (sym u))) t
+    by_kind kind.ForInStatement w t = one_case kind.ForInStatement environment.Loop w refl (λ m. refl) (λ j y. environment_kind_is j environment.Loop y) (refl, refl, refl, refl) (λ u. absurd (never (sym u))) t
+    by_kind kind.ForOfStatement w t = one_case kind.ForOfStatement environment.Loop w refl (λ m. refl) (λ j y. environment_kind_is j environment.Loop y) (refl, refl, refl, refl) (λ u. absurd (never (sym u))) t
+    by_kind kind.CatchClause w t = clause_case w t
     by_kind kind.Class w t = class_case w t
     by_kind kind.WithStatement w t = absurd (never_with w)
     by_kind _ w t = none_case _ w refl t
 
+  module _ (q c : Place) (seen : IsSeen p q) (seen_child : IsSeen p c) (path : c.path ≡ q.node ∷ q.path) (well : stands_well q.node.kind c.role c.node.kind [] ≡ true) (heads : heads_parameters q.node.kind c.role c.node.kind [] ≡ true) (no_identifier : is kind.BindingIdentifier c.node ≡ false) (apart : in_with_under c.path ≡ false) (t : ChainOf q.node.kind c.role q.node q.chain c.chain) where
+    under_clause : is_catch_body c ≡ true → is kind.CatchClause q.node ≡ true
+    under_clause w = subst (λ l. parent_holds (is kind.CatchClause) l ≡ true) path (and_second (is kind.BlockStatement c.node && same_role c.role role.Body) (parent_holds (is kind.CatchClause) c.path) w)
+
+    -- in a clause the body's scope is the clause's
+    clause_chain : (body : is_catch_body c ≡ true) → c.chain ≡ (seen_child.clausal.body body).clause ∷ q.chain
+    clause_chain body = go c.chain refl t
+      where
+        heads_are : (s z : OpenScope) (ss zs : List OpenScope) → s ∷ ss ≡ z ∷ zs → s ≡ z
+        heads_are s z ss zs i = cc
+
+        go : (chain : List OpenScope) → c.chain ≡ chain → ChainOf q.node.kind c.role q.node q.chain chain → c.chain ≡ (seen_child.clausal.body body).clause ∷ q.chain
+        go _ v (outer_chain i) = absurd (never (subst (λ a. is_inside a c.role ≡ false) (kind_is q.node.kind kind.CatchClause (under_clause body)) i))
+        go _ v (inner_chain s i o j) = v ∙ ap (λ z. z ∷ q.chain) (heads_are s (seen_child.clausal.body body).clause q.chain (seen_child.clausal.body body).round (sym v ∙ (seen_child.clausal.body body).chain))
+
+    child_agrees : AgreesBy p x (is_catch_body q) q → AgreesBy p x (is_catch_body c) c
+    child_agrees agree = by (is_catch_body q) refl agree
+      where
+        no_clause : is_catch_body q ≡ true → is kind.CatchClause q.node ≡ false
+        no_clause k = ap (λ a. same_kind a kind.CatchClause) (body_kind q k)
+
+        in_open : (u : Bool) → is_catch_body c ≡ u → is_catch_body q ≡ false → Agrees p x q → AgreesBy p x u c
+        in_open true w k a = round_child p h e numbered x none not_arguments clear plain q c a (seen_child.clausal.body w) path (clause_chain w) (under_clause w)
+        in_open false w k a = λ i. subst (λ l. Matches p (nearest_symbol final es x c.chain) (meaning bs (environments c.node l) x)) (sym path)
+            (by_kind q c a k seen seen_child path well heads no_identifier apart w q.node.kind refl t (subst (StandsInExpressions ws x c.node) path i))
+
+        in_closed : (u : Bool) → is_catch_body c ≡ u → is_catch_body q ≡ true → AgreesRound p x q → AgreesBy p x u c
+        in_closed true w k a = absurd (never (sym (under_clause w) ∙ no_clause k))
+        in_closed false w k a = body_agrees p h e numbered x none not_arguments clear plain q c a k seen seen_child path t
+
+        by : (u : Bool) → is_catch_body q ≡ u → AgreesBy p x u q → AgreesBy p x (is_catch_body c) c
+        by true k a = in_closed (is_catch_body c) refl k a
+        by false k a = in_open (is_catch_body c) refl k a
+
   -- ---- all places
 
-  agree_steps : (q : Place) (own : Option OpenScope) (n cursor : ℕ) (f : Forest) → (is kind.BindingIdentifier q.node ≡ false → in_with_under q.path ≡ false → Agrees q) → IsSeen q → OwnOf q own → holds_below heads_parameters q.node.kind f ≡ true → EachStep SeenAt (steps_below q own n cursor f) → EachStep AgreesAt (steps_below q own n cursor f)
-  agree_steps q own n cursor nothing agree seen o heads k = last_case (EachStep AgreesAt) q own n tt (tt, (tt, tt))
+  agree_steps : (q : Place) (own : Option OpenScope) (n cursor : ℕ) (f : Forest) → (is kind.BindingIdentifier q.node ≡ false → in_with_under q.path ≡ false → AgreesBy p x (is_catch_body q) q) → IsSeen p q → OwnOf q own → holds_below heads_parameters q.node.kind f ≡ true → EachStep (SeenAt p) (steps_below q own n cursor f) → EachStep (AgreesAt p x) (steps_below q own n cursor f)
+  agree_steps q own n cursor nothing agree seen o heads k = last_case (EachStep (AgreesAt p x)) q own n tt (tt, (tt, tt))
   agree_steps q own n cursor (tree r k2 span text marks below id after) agree seen o heads k =
       let node : Node = record { kind = k2; span = span; text = text; marks = marks; children = below; node_id = id } in
       let turn : Turn = turn_at q own n cursor r node after in
-      let sees : EachOfTurn SeenAt turn = turn_of_each SeenAt turn k in
-      let child_seen : IsSeen turn.child = sees.whole.0 in
+      let sees : EachOfTurn (SeenAt p) turn = turn_of_each (SeenAt p) turn k in
+      let child_seen : IsSeen p turn.child = sees.whole.0 in
       let well : stands_well q.node.kind r k2 [] ≡ true = child_seen.familiar.stands in
       let head : heads_parameters q.node.kind r k2 text ≡ true = and_first (heads_parameters q.node.kind r k2 text) (holds_below heads_parameters k2 below && holds_below heads_parameters q.node.kind after) heads in
       let more : (holds_below heads_parameters k2 below && holds_below heads_parameters q.node.kind after) ≡ true = and_second (heads_parameters q.node.kind r k2 text) (holds_below heads_parameters k2 below && holds_below heads_parameters q.node.kind after) heads in
       let no_identifier : is kind.BindingIdentifier q.node ≡ false = not-true (same_kind q.node.kind kind.BindingIdentifier) (and_first (not (same_kind q.node.kind kind.BindingIdentifier)) _ well) in
       let o_scope : OwnOf q turn.scope = own_of q r own n o in
       let chain : ChainOf q.node.kind r q.node q.chain turn.child.chain = chain_of q r turn.scope cursor node child_seen.familiar.undecorated (is_open_inside q r own n) o_scope in
-      let child : is kind.BindingIdentifier node ≡ false → in_with_under (q.node ∷ q.path) ≡ false → Agrees turn.child = λ i w. by_kind q turn.child (agree no_identifier (with_outer q w)) seen child_seen refl well head i w q.node.kind refl chain in
-      each_of_turn AgreesAt turn (record {
-        before = opening_case (EachStep AgreesAt) q r own n tt (tt, tt);
-        whole = each_of_node AgreesAt turn.child turn.below child (agree_steps turn.child None turn.next turn.inner below child child_seen tt (and_first (holds_below heads_parameters k2 below) (holds_below heads_parameters q.node.kind after) more) (each_left SeenAt turn.below (leaving turn.child ∷ []) sees.whole.1)) tt;
-        behind = ending_case (EachStep AgreesAt) q r turn.scope after tt (λ s. (tt, tt)) (λ s. (tt, tt)) (λ s. (tt, (tt, tt)));
+      let child : is kind.BindingIdentifier node ≡ false → in_with_under (q.node ∷ q.path) ≡ false → AgreesBy p x (is_catch_body turn.child) turn.child = λ i w. child_agrees q turn.child seen child_seen refl well head i w chain (agree no_identifier (with_outer q w)) in
+      each_of_turn (AgreesAt p x) turn (record {
+        before = opening_case (EachStep (AgreesAt p x)) q r own n tt (tt, tt);
+        whole = each_of_node (AgreesAt p x) turn.child turn.below child (agree_steps turn.child None turn.next turn.inner below child child_seen tt (and_first (holds_below heads_parameters k2 below) (holds_below heads_parameters q.node.kind after) more) (each_left (SeenAt p) turn.below (leaving turn.child ∷ []) sees.whole.1)) tt;
+        behind = ending_case (EachStep (AgreesAt p x)) q r turn.scope after tt (λ s. (tt, tt)) (λ s. (tt, tt)) (λ s. (tt, (tt, tt)));
         others = agree_steps q turn.scope turn.rest turn.past after agree seen o_scope (and_second (holds_below heads_parameters k2 below) (holds_below heads_parameters q.node.kind after) more) sees.others;
       })
 
-  seen_each : (ss : List Step) → ((q : Place) → Among (entering q) ss → Among (entering q) (steps p)) → EachStep KnownAt ss → EachStep (FamiliarAt (node_at p)) ss → EachStep (IsPlaceOpened (openers (steps p))) ss → EachStep (IsStepIn (table_of p)) ss → EachStep SeenAt ss
-  seen_each [] f a b c d = tt
-  seen_each (entering q ∷ ss) f a b c d = (record { entered = f q (inl refl); known = a.0; familiar = b.0; opened = c.0; in_table = d.0 }, seen_each ss (λ r i. f r (inr i)) a.1 b.1 c.1 d.1)
-  seen_each (opening q o ∷ ss) f a b c d = (tt, seen_each ss (λ r i. f r (inr i)) a.1 b.1 c.1 d.1)
-  seen_each (header_ending q o ∷ ss) f a b c d = (tt, seen_each ss (λ r i. f r (inr i)) a.1 b.1 c.1 d.1)
-  seen_each (closing q o ∷ ss) f a b c d = (tt, seen_each ss (λ r i. f r (inr i)) a.1 b.1 c.1 d.1)
-  seen_each (leaving q ∷ ss) f a b c d = (tt, seen_each ss (λ r i. f r (inr i)) a.1 b.1 c.1 d.1)
-
-  pub agree_program : EachStep AgreesAt (steps p)
+  pub agree_program : EachStep (AgreesAt p x) (steps p)
   agree_program =
       let root : Place = root_place p in
       let n : ℕ = on_entering p.root.kind 0 in
       let below : List Step = steps_below root None 0 n p.root.children in
-      let all : EachStep SeenAt (steps p) = seen_each (steps p) (λ q i. i) (known_program p h e) (familiar_program p h e numbered) (places_opened p) (steps_in p (has_form p h)) in
-      each_of_node AgreesAt root below (λ i w j. refl) (agree_steps root None 0 n p.root.children (λ i w j. refl) all.0 tt (tree_heads p h) (each_left SeenAt below (leaving root ∷ []) all.1)) tt
+      let all : EachStep (SeenAt p) (steps p) = seen_program p h e numbered in
+      let first : is_catch_body root ≡ false = and_false (is kind.BlockStatement p.root && same_role role.Root role.Body) in
+      let one : is kind.BindingIdentifier p.root ≡ false → in_with_under [] ≡ false → AgreesBy p x (is_catch_body root) root = λ i w. subst (λ b. AgreesBy p x b root) (sym first) (λ j. refl) in
+      each_of_node (AgreesAt p x) root below one (agree_steps root None 0 n p.root.children one all.0 tt (tree_heads p h) (each_left (SeenAt p) below (leaving root ∷ []) all.1)) tt

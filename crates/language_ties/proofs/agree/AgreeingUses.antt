@@ -13,7 +13,7 @@ use Rattle.semantic_tree.specs.Tree.{Tree, IsNumbered}
 use Rattle.semantic_tree.specs.Views.{is}
 use Rattle.semantic_model.specs.Analysis.{analysis_of, symbol_at, tied_at}
 use Rattle.semantic_model.specs.Entries.{Among}
-use Rattle.semantic_model.specs.Event.{declarations, events}
+use Rattle.semantic_model.specs.Event.{declarations, events, is_catch_body}
 use Rattle.semantic_model.specs.Fold.{State, start}
 use Rattle.semantic_model.specs.Hoist.{run}
 use Rattle.semantic_model.specs.NodeTable.{numbered_from, number_of, node_tables}
@@ -34,9 +34,10 @@ use Rattle.language_ties.specs.Meaning.{Meaning, unbound, of_object, bound, mean
 use Rattle.language_ties.specs.Moved.{bound_of}
 use Rattle.language_ties.specs.NearestScopes.{nearest_symbol}
 use Rattle.language_ties.specs.SharedSymbols.{AllKeepClear}
-use Rattle.language_ties.proofs.agree.Agreeing.{AgreesAt, agree_program}
+use Rattle.language_ties.proofs.agree.Agreeing.{agree_program}
 use Rattle.language_ties.proofs.agree.EnteredOnce.{entered_once}
-use Rattle.language_ties.proofs.agree.ScopeAnswers.{AllAre, Matches}
+use Rattle.language_ties.proofs.agree.PlaceAgreement.{AllAre, Matches, AgreesBy, AgreesAt}
+use Rattle.language_ties.proofs.caught.CaughtBounds.{no_block}
 use Rattle.language_ties.proofs.nearest.NearestTies.{ReadAt, read_at, tied_nearest}
 use Rattle.language_ties.proofs.symbols.OneSymbol.{of_map, each_at}
 
@@ -127,9 +128,9 @@ module _ (p : Tree) where
 
   module _ (h : first_fault p ≡ None) (e : is_ecmascript p ≡ true) (numbered : IsNumbered p.root) (x : Name) (none : IsBoundOutsideWith p x) (not_arguments : bytes_eq x (codes "arguments") ≡ false) (clear : AllKeepClear x (declarations (events (steps p)))) (plain : IsPlainName p x) where
     abbrev Fits : Option ℕ → Meaning → Type 0
-    Fits o m = Matches p h e numbered x none not_arguments clear plain o m
+    Fits o m = Matches p o m
 
-    same_list : (ids : List ℕ) (s : ℕ) → AllAre p h e numbered x none not_arguments clear plain ids s → AllAreSymbols ids s
+    same_list : (ids : List ℕ) (s : ℕ) → AllAre p ids s → AllAreSymbols ids s
     same_list [] s k = tt
     same_list (i ∷ ids) s k = (k.0, same_list ids s k.1)
 
@@ -157,9 +158,13 @@ module _ (p : Tree) where
     not_identifier : (q : Place) → is kind.IdentifierReference q.node ≡ true → is kind.BindingIdentifier q.node ≡ false
     not_identifier q k = subst (λ j. same_kind j kind.BindingIdentifier ≡ false) (sym (kind_is q.node.kind kind.IdentifierReference k)) refl
 
+    no_body : (q : Place) → is kind.IdentifierReference q.node ≡ true → is_catch_body q ≡ false
+    no_body q k = no_block q (subst (λ j. same_kind j kind.BlockStatement ≡ false) (sym (kind_is q.node.kind kind.IdentifierReference k)) refl)
+
     pub agrees_apart : AgreesApart p x
     agrees_apart q a k n i =
         let agree : Fits (nearest_symbol (run start (events (steps p))) (events (steps p)) x q.chain) (meaning (bound_of p) (environments q.node q.path) x) =
-        each_at (AgreesAt p h e numbered x none not_arguments clear plain) (steps p) (entering q) (agree_program p h e numbered x none not_arguments clear plain) a (not_identifier q k) i.0 i.1 in
+        subst (λ b. AgreesBy p x b q) (no_body q k)
+        (each_at (AgreesAt p x) (steps p) (entering q) (agree_program p h e numbered x none not_arguments clear plain) a (not_identifier q k) i.0) i.1 in
         subst (λ y. agrees (analysis_of p) q.node.node_id (meaning (bound_of p) (environments q.node q.path) y) ≡ true) (sym n)
         (fits_agree q.node.node_id (nearest_symbol (run start (events (steps p))) (events (steps p)) x q.chain) (meaning (bound_of p) (environments q.node q.path) x) (tied_here q a k n) agree)

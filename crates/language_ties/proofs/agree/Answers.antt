@@ -1,5 +1,5 @@
--- Of a plain name whose declarations keep clear, a scope binds exactly what the environments of its opener bind.
-use Rattle.std.proofs.Common.{◌≡◌, ℕ, ◌<◌, List, Option, Some, None, true, length, refl, sym, ap, subst, ◌∙◌, arith}
+-- Of a plain name whose declarations keep clear, a scope binds exactly what the environments of its opener bind, and that of a clause's body what the clause's binds.
+use Rattle.std.proofs.Common.{◌≡◌, ℕ, ◌<◌, List, Option, Some, None, true, length, inl, inr, ◌⊎◌, false, refl, sym, ap, subst, ◌∙◌, arith}
 use Rattle.std.specs.Prelude.{slice_get}
 use Rattle.std.proofs.lemmas.Option.{slice_get_within}
 use Rattle.semantic_syntax.specs.Reading as reading
@@ -21,11 +21,14 @@ use Rattle.semantic_model.proofs.fold.Orders.{table_of}
 use Rattle.language_ties.specs.AgreeingNames.{IsPlainName, IsBoundOutsideWith}
 use Rattle.language_ties.specs.Bound.{Bound, written}
 use Rattle.language_ties.specs.EcmaScript.{is_ecmascript}
+use Rattle.language_ties.specs.Environments.{is_made_for}
 use Rattle.language_ties.specs.SharedSymbols.{AllKeepClear, ShareSymbols, HasHomesSymbol, IsDeclaredAt}
+use Rattle.language_ties.specs.declared.environment_kind.EnvironmentKind.TheVariants as environment
 use Rattle.language_ties.proofs.UndeclaredNames.{each_identifier}
 use Rattle.language_ties.proofs.agree.KnownBounds.{some_is, KnownBound, bodiless}
 use Rattle.language_ties.proofs.clear.SingleNames.{identifier_of, same_declaration, declared_once}
-use Rattle.language_ties.proofs.own_names.AnyBounds.{any_bound, IsDeclared, is_declared}
+use Rattle.language_ties.proofs.caught.CaughtBounds.{IsTakenBy, made_where}
+use Rattle.language_ties.proofs.own_names.AnyBounds.{AnyBound, any_bound, IsDeclared, is_declared}
 use Rattle.language_ties.proofs.shared.HomesShared.{share_symbols}
 use Rattle.language_ties.proofs.symbols.ScopeOpeners.{openers, IsOpened, one_scope}
 use Rattle.language_ties.proofs.symbols.SymbolNumbers.{symbol_is}
@@ -56,36 +59,41 @@ module _ (p : Tree) (h : first_fault p ≡ None) (e : is_ecmascript p ≡ true) 
   within : (c : ℕ) (o : Option ℕ) → slice_get table c ≡ Some o → c < length (scopes (steps p))
   within c o q = omega (arith, slice_get_within table c o q, scopes_length (evals (steps p)) (steps p))
 
-  -- the scope that the maker of the environment opens binds the name to it
-  pub answers : (b : Bound) (k : KnownBound p h e numbered x none plain b) (s : OpenScope) → IsOpened (openers (steps p)) s → s.opener ≡ b.environment.maker → get final.bindings s.number x ≡ Some (symbol_of b k)
+  -- what is bound at its home
+  at_home : (b : Bound) (k : KnownBound p h e numbered x none plain b) (c : ℕ) → home k.declares.declaration ≡ c → c < length (scopes (steps p)) → get final.bindings c x ≡ Some (symbol_of b k)
   unfolding symbol_of
-  answers b k s o q =
+  at_home b k c q i =
       let d : Declaration = k.declares.declaration in
       let y : HasHomesSymbol p d = shared.share d k.declares.among k.declares.named k.declares.visible in
-      let number : d.route.target.number ≡ s.number = one_scope p numbered d.route.target s k.declares.opened o (k.declares.maker ∙ sym q) in
-      let home_is : home d ≡ d.route.target.number = ap (body_or d.route.target.number) (bodiless p h e numbered x none plain b k) in
       let there : reading.bound_in (tables_of p) (home d) x ≡ Some y.symbol = subst (λ n. reading.bound_in (tables_of p) (home d) n ≡ Some y.symbol) k.declares.named y.bound in
-      let at : reading.bound_in (tables_of p) d.route.target.number x ≡ Some y.symbol = subst (λ c. reading.bound_in (tables_of p) c x ≡ Some y.symbol) home_is there in
-      subst (λ c. get final.bindings c x ≡ Some y.symbol) number (sym (bound_as p d.route.target.number x (within d.route.target.number d.route.target.body k.declares.entry)) ∙ at)
+      sym (bound_as p c x i) ∙ subst (λ z. reading.bound_in (tables_of p) z x ≡ Some y.symbol) q there
 
-  -- what is bound in a scope
+  -- the scope that the maker of the environment opens binds the name to it, unless that is a clause
+  pub answers : (b : Bound) (k : KnownBound p h e numbered x none plain b) → is_made_for environment.Catch b.environment ≡ false → (s : OpenScope) → IsOpened (openers (steps p)) s → s.opener ≡ b.environment.maker → get final.bindings s.number x ≡ Some (symbol_of b k)
+  answers b k apart s o q =
+      let d : Declaration = k.declares.declaration in
+      let number : d.route.target.number ≡ s.number = one_scope p numbered d.route.target s k.declares.opened o (k.declares.maker ∙ sym q) in
+      let home_is : home d ≡ d.route.target.number = ap (body_or d.route.target.number) (bodiless p h e numbered x none plain b k apart) in
+      subst (λ c. get final.bindings c x ≡ Some (symbol_of b k)) number (at_home b k d.route.target.number home_is (within d.route.target.number d.route.target.body k.declares.entry))
+
+  -- so does the scope that takes it over
+  pub body_answers : (b : Bound) (k : KnownBound p h e numbered x none plain b) (s : OpenScope) → slice_get table s.number ≡ Some s.body → k.declares.declaration.route.target.body ≡ Some s.number → get final.bindings s.number x ≡ Some (symbol_of b k)
+  body_answers b k s entry q = at_home b k s.number (ap (body_or k.declares.declaration.route.target.number) q) (within s.number s.body entry)
+
+  -- what is bound in a scope: by its opener, or by the clause whose body it is
   pub record IsAsked (s : OpenScope) : Type 0 where
     pub bind : Bound
     pub among : Among bind ws
     pub named : bind.name ≡ x
-    pub maker : bind.environment.maker ≡ s.opener
+    pub there : (bind.environment.maker ≡ s.opener) ⊎ IsTakenBy p bind s.number
 
   pub asked : (s : OpenScope) (y : ℕ) → IsOpened (openers (steps p)) s → slice_get table s.number ≡ Some s.body → get final.bindings s.number x ≡ Some y → IsAsked s
   asked s y o entry g =
       let there : reading.bound_in (tables_of p) s.number x ≡ Some y = bound_as p s.number x (within s.number s.body entry) ∙ g in
       let w : IsDeclaredAt p x s.number y = shared.bound s.number y there in
       let (b, a, n, i) = each_identifier p.source_type x (λ j. (b : Bound) × Among b ws × (b.name ≡ x) × (b.identifier ≡ j)) p h e (λ b a n. (b, a, n, refl)) w.declaration w.among w.named in
-      let k : IsDeclared p h e numbered x none plain b = is_declared p h e numbered x none plain b (any_bound p h e numbered x none plain b a n) in
-      let d : Declaration = k.declaration in
-      let one : identifier_of w.declaration ≡ identifier_of d = sym i ∙ sym k.identifier in
-      let same : w.declaration ≡ d = same_declaration w.declaration d (declarations (events (steps p))) w.among k.among one (declared_once p (identifier_of w.declaration) h numbered) in
-      let home_is : home d ≡ d.route.target.number = ap (body_or d.route.target.number) k.bodiless in
-      let homes : home d ≡ s.number = ap home (sym same) ∙ w.stands in
-      let number : d.route.target.number ≡ s.number = sym home_is ∙ homes in
-      let opener : Some d.route.target.opener ≡ Some s.opener = sym k.opened ∙ ap (slice_get (openers (steps p))) number ∙ o in
-      record { bind = b; among = a; named = n; maker = sym k.maker ∙ some_is d.route.target.opener s.opener opener }
+      let v : AnyBound p h e numbered x none plain b = any_bound p h e numbered x none plain b a n in
+      let k : IsDeclared p h e numbered x none plain b = is_declared p h e numbered x none plain b v in
+      let one : identifier_of w.declaration ≡ identifier_of k.declaration = sym i ∙ sym k.identifier in
+      let same : w.declaration ≡ k.declaration = same_declaration w.declaration k.declaration (declarations (events (steps p))) w.among k.among one (declared_once p (identifier_of w.declaration) h numbered) in
+      record { bind = b; among = a; named = n; there = made_where p h e numbered x none plain b v s o (ap home (sym same) ∙ w.stands) }

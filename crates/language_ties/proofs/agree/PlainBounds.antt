@@ -57,18 +57,12 @@ bound_at_place s (leaving q ∷ ss) b a = later s (leaving q) ss b (bound_at_pla
 
 -- ---- what it is to be plain
 
-nor : (a b c : Bool) → not (a || (b || c)) ≡ true → (a ≡ false) × (b ≡ false) × (c ≡ false)
-nor true b c h = absurd cc
-nor false true c h = absurd cc
-nor false false true h = absurd cc
-nor false false false h = (refl, refl, refl)
-
 module _ (b : Bound) (h : is_declared_plainly b ≡ true) where
-  rest : (not (is_made_for environment.Catch b.environment || (is_made_for environment.Class b.environment || is_bound_as bound.CatchName b)) && not (is_bound_as bound.Function b && is_made_for environment.IfBody b.environment)) ≡ true
+  rest : (not (is_made_for environment.Class b.environment) && not (is_bound_as bound.Function b && is_made_for environment.IfBody b.environment)) ≡ true
   rest = and_second (has_none b.also || is_bound_as bound.Lexical b) _ h
 
   more : not (is_bound_as bound.Function b && is_made_for environment.IfBody b.environment) ≡ true
-  more = and_second (not (is_made_for environment.Catch b.environment || (is_made_for environment.Class b.environment || is_bound_as bound.CatchName b))) _ rest
+  more = and_second (not (is_made_for environment.Class b.environment)) _ rest
 
   pub by_one : is_bound_as bound.Lexical b ≡ false → b.also ≡ []
   by_one other = go b.also (subst (λ t. (has_none b.also || t) ≡ true) other (and_first (has_none b.also || is_bound_as bound.Lexical b) _ h))
@@ -77,17 +71,8 @@ module _ (b : Bound) (h : is_declared_plainly b ≡ true) where
       go [] e = refl
       go (x ∷ es) e = absurd cc
 
-  no_catches : (is_made_for environment.Catch b.environment ≡ false) × (is_made_for environment.Class b.environment ≡ false) × (is_bound_as bound.CatchName b ≡ false)
-  no_catches = nor (is_made_for environment.Catch b.environment) (is_made_for environment.Class b.environment) (is_bound_as bound.CatchName b) (and_first (not (is_made_for environment.Catch b.environment || (is_made_for environment.Class b.environment || is_bound_as bound.CatchName b))) _ rest)
-
-  pub no_catch : is_made_for environment.Catch b.environment ≡ false
-  no_catch = no_catches.0
-
   pub no_class : is_made_for environment.Class b.environment ≡ false
-  no_class = no_catches.1
-
-  pub no_catch_name : is_bound_as bound.CatchName b ≡ false
-  no_catch_name = no_catches.2
+  no_class = not-true (is_made_for environment.Class b.environment) (and_first (not (is_made_for environment.Class b.environment)) _ rest)
 
   pub no_if_body : is_bound_as bound.Function b ≡ true → is_made_for environment.IfBody b.environment ≡ false
   no_if_body e = subst (λ t. (t && is_made_for environment.IfBody b.environment) ≡ false) e (not-true (is_bound_as bound.Function b && is_made_for environment.IfBody b.environment) more)

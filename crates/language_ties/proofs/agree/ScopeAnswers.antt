@@ -21,13 +21,13 @@ use Rattle.language_ties.specs.AgreeingNames.{IsPlainName, IsBoundOutsideWith}
 use Rattle.language_ties.specs.Bound.{Bound, is_bound_as, written}
 use Rattle.language_ties.specs.EcmaScript.{is_ecmascript}
 use Rattle.language_ties.specs.Environments.{Environment, same_environment_kind, is_made_for, has_parameter_expressions}
-use Rattle.language_ties.specs.Meaning.{Meaning, unbound, of_object, bound, identifiers_in, meaning}
+use Rattle.language_ties.specs.Meaning.{Meaning, identifiers_in, meaning}
 use Rattle.language_ties.specs.Moved.{bound_of}
 use Rattle.language_ties.specs.SharedSymbols.{AllKeepClear}
 use Rattle.language_ties.specs.declared.bound_as.BoundAs.TheVariants as way
 use Rattle.language_ties.specs.declared.environment_kind.EnvironmentKind.{EnvironmentKind}
 use Rattle.language_ties.specs.declared.environment_kind.EnvironmentKind.TheVariants as environment
-use Rattle.language_ties.proofs.agree.Answers.{symbol_of, has_symbol, answers, IsAsked, asked}
+use Rattle.language_ties.proofs.agree.Answers.{symbol_of, has_symbol, answers, body_answers, IsAsked, asked}
 use Rattle.language_ties.proofs.agree.ClassBounds.{IsClassBound, class_bound}
 use Rattle.language_ties.proofs.agree.FamiliarPlaces.{IsFamiliar, FamiliarAt, familiar_program}
 use Rattle.language_ties.proofs.agree.FunctionKinds.{function_kinds, arrow_kinds, IsOrdinary}
@@ -35,6 +35,8 @@ use Rattle.language_ties.proofs.agree.Identifiers.{IsBoundHere, bound_here, iden
 use Rattle.language_ties.proofs.agree.KnownBounds.{some_is, KnownBound}
 use Rattle.language_ties.proofs.agree.KnownNodes.{node_at}
 use Rattle.language_ties.proofs.agree.MadeEnvironments.{may_make, environment_kind_is}
+use Rattle.language_ties.proofs.agree.PlaceAgreement.{AllAre, Matches}
+use Rattle.language_ties.proofs.caught.CaughtBounds.{IsTakenBy}
 use Rattle.language_ties.proofs.own_names.AnyBounds.{AnyBound, any_bound, IsMade, is_made, own_kind}
 use Rattle.language_ties.proofs.own_names.OwnBounds.{own_maker}
 use Rattle.language_ties.proofs.own_names.OwnSymbols.{HasSymbol, function_symbol}
@@ -62,19 +64,6 @@ module _ (p : Tree) (h : first_fault p ≡ None) (e : is_ecmascript p ≡ true) 
 
   abbrev Any : Bound → Type 0
   Any b = AnyBound p h e numbered x none plain b
-
-  -- ---- agreement
-
-  abbrev pub AllAre : List ℕ → ℕ → Type 0
-  AllAre [] s = Unit {0}
-  AllAre (i ∷ is) s = (symbol_at (analysis_of p) i ≡ Some s) × AllAre is s
-
-  -- the symbol is that of all identifiers, and none where nothing binds the name
-  abbrev pub Matches : Option ℕ → Meaning → Type 0
-  Matches o unbound = o ≡ None
-  Matches o (of_object d) = ⊥
-  Matches o (bound d []) = ⊥
-  Matches o (bound d (i ∷ is)) = (s : ℕ) × (o ≡ Some s) × AllAre (i ∷ is) s
 
   -- ---- what an environment binds
 
@@ -147,9 +136,9 @@ module _ (p : Tree) (h : first_fault p ≡ None) (e : is_ecmascript p ≡ true) 
         let there : w.bind.environment ≡ d = directly d i v.1 w in
         let k : Known w.bind = visible d w.bind w.known there v.1 v.2 in
         let y : ℕ = symbol_of p h e numbered x none clear plain w.bind k in
-        (y, answers p h e numbered x none clear plain w.bind k s o (opener ∙ sym m ∙ sym (ap (λ z. z.maker) there)), subst (λ j. symbol_at (analysis_of p) j ≡ Some y) w.identifier (has_symbol p h e numbered x none clear plain w.bind k))
+        (y, answers p h e numbered x none clear plain w.bind k (ap (is_made_for environment.Catch) there ∙ v.3) s o (opener ∙ sym m ∙ sym (ap (λ z. z.maker) there)), subst (λ j. symbol_at (analysis_of p) j ≡ Some y) w.identifier (has_symbol p h e numbered x none clear plain w.bind k))
 
-    all_answer : (d : Environment) → d.maker ≡ q.node_id → IsOrdinary d.kind → (y : ℕ) → Y ≡ Some y → (is : List ℕ) → ((i : ℕ) → Among i is → Among i (identifiers_in bs d x)) → AllAre is y
+    all_answer : (d : Environment) → d.maker ≡ q.node_id → IsOrdinary d.kind → (y : ℕ) → Y ≡ Some y → (is : List ℕ) → ((i : ℕ) → Among i is → Among i (identifiers_in bs d x)) → AllAre p is y
     all_answer d m v y g [] f = tt
     all_answer d m v y g (i ∷ is) f =
         let (z, there, symbol) = answer_of d m v i (f i (inl refl)) in
@@ -157,10 +146,10 @@ module _ (p : Tree) (h : first_fault p ≡ None) (e : is_ecmascript p ≡ true) 
         (symbol ∙ ap Some same, all_answer d m v y g is (λ j a. f j (inr a)))
 
     -- where the environment binds the name, that is what it means
-    pub here : (d : Environment) (ds : List Environment) → d.maker ≡ q.node_id → IsOrdinary d.kind → (i : ℕ) (is : List ℕ) → identifiers_in bs d x ≡ i ∷ is → (later : Option ℕ) → Matches (or_else Y later) (meaning bs (d ∷ ds) x)
+    pub here : (d : Environment) (ds : List Environment) → d.maker ≡ q.node_id → IsOrdinary d.kind → (i : ℕ) (is : List ℕ) → identifiers_in bs d x ≡ i ∷ is → (later : Option ℕ) → Matches p (or_else Y later) (meaning bs (d ∷ ds) x)
     here d ds m n i is w later =
         let (y, there, symbol) = answer_of d m n i (subst (Among i) (sym w) (inl refl)) in
-        subst (Matches (or_else Y later)) (sym (meaning_here bs x not_arguments d ds i is n.0 w))
+        subst (Matches p (or_else Y later)) (sym (meaning_here bs x not_arguments d ds i is n.0 w))
         (y, ap (λ z. or_else z later) there, all_answer d m n y there (i ∷ is) (λ j a. subst (Among j) (sym w) a))
 
     -- what the scope binds is bound by an environment of the opener
@@ -197,11 +186,6 @@ module _ (p : Tree) (h : first_fault p ≡ None) (e : is_ecmascript p ≡ true) 
     unfolding made_there
     is_there b a n m = record { there = made_there b a n m; same = refl }
 
-    bound_there : (y : ℕ) → Y ≡ Some y → IsBoundThere
-    bound_there y g =
-        let w : IsAsked p h e numbered x none clear plain s = asked p h e numbered x none clear plain s y o entry g in
-        made_there w.bind w.among w.named (w.maker ∙ opener)
-
     -- an environment that binds nothing is none of those
     pub none_there : (d : Environment) → identifiers_in bs d x ≡ [] → (w : IsBoundThere) → w.bind.environment ≡ d → ⊥
     none_there d n w q = subst (Among w.bind.identifier) n (identifier_here ws x d ws w.bind w.among w.named q)
@@ -209,116 +193,188 @@ module _ (p : Tree) (h : first_fault p ≡ None) (e : is_ecmascript p ≡ true) 
     pub environment_is : (w : IsBoundThere) (k : EnvironmentKind) → w.bind.environment.kind ≡ k → w.bind.environment ≡ record { kind = k; maker = q.node_id }
     environment_is w k v = λ i. record { kind = v i; maker = w.maker i }
 
-    -- where no environment of the opener binds the name, nor does the scope
-    pub unanswered : (IsBoundThere → ⊥) → Y ≡ None
-    unanswered n = go Y refl
-      where
-        go : (t : Option ℕ) → Y ≡ t → Y ≡ None
-        go None g = g
-        go (Some y) g = absurd (n (bound_there y g))
+    pub further : (later : Option ℕ) (m : Meaning) → Y ≡ None → Matches p later m → Matches p (or_else Y later) m
+    further later m g k = subst (λ t. Matches p (or_else t later) m) (sym g) k
 
-    pub further : (later : Option ℕ) (m : Meaning) → Y ≡ None → Matches later m → Matches (or_else Y later) m
-    further later m g k = subst (λ t. Matches (or_else t later) m) (sym g) k
+    -- ---- the block of a clause
 
-    -- one environment
-    pub one : (k : EnvironmentKind) (ds : List Environment) → ((j : EnvironmentKind) → may_make q.kind j ≡ true → j ≡ k) → IsOrdinary k → (later : Option ℕ) → Matches later (meaning bs ds x) → Matches (or_else Y later) (meaning bs (record { kind = k; maker = q.node_id } ∷ ds) x)
-    one k ds only n later m = go (identifiers_in bs (record { kind = k; maker = q.node_id }) x) refl
-      where
-        go : (is : List ℕ) → identifiers_in bs (record { kind = k; maker = q.node_id }) x ≡ is → Matches (or_else Y later) (meaning bs (record { kind = k; maker = q.node_id } ∷ ds) x)
-        go (i ∷ is) w = here (record { kind = k; maker = q.node_id }) ds refl n i is w later
-        go [] w =
-            subst (Matches (or_else Y later)) (sym (meaning_further bs x not_arguments (record { kind = k; maker = q.node_id }) ds n.0 w))
-            (further later (meaning bs ds x) (unanswered (λ v. none_there (record { kind = k; maker = q.node_id }) w v (environment_is v k (only v.bind.environment.kind v.makes)))) m)
+    -- the scope of the block takes over that of the clause: it has the symbol of what the block binds, else of what the clause does
+    module _ (clause : Node) (caught : clause.kind ≡ kind.CatchClause) (clause_found : node_at p clause.node_id ≡ Some clause) (block : q.kind ≡ kind.BlockStatement)
+        (of_clause : (b : Bound) → IsTakenBy p b s.number → b.environment.maker ≡ clause.node_id)
+        (taken : (b : Bound) (k : Known b) → b.environment.maker ≡ clause.node_id → k.declares.declaration.route.target.body ≡ Some s.number) (later : Option ℕ) (ds : List Environment) (m : Matches p later (meaning bs ds x)) where
+      abbrev Block : Environment
+      Block = record { kind = environment.Block; maker = q.node_id }
 
-    -- a function's, with that of its body where the child stands in it
-    module _ (k : EnvironmentKind) (n : IsOrdinary k) (later : Option ℕ) where
-      abbrev Body : Environment
-      Body = record { kind = environment.Body; maker = q.node_id }
+      abbrev Clause : Environment
+      Clause = record { kind = environment.Catch; maker = clause.node_id }
 
-      abbrev Own : Environment
-      Own = record { kind = k; maker = q.node_id }
+      caught_symbol : (i : ℕ) → Among i (identifiers_in bs Clause x) → (y : ℕ) × (Y ≡ Some y) × (symbol_at (analysis_of p) i ≡ Some y)
+      caught_symbol i a =
+          let w : IsHere Clause i = is_here Clause i a in
+          let there : w.bind.environment ≡ Clause = directly Clause i refl w in
+          let k : Known w.bind = visible Clause w.bind w.known there refl refl in
+          let y : ℕ = symbol_of p h e numbered x none clear plain w.bind k in
+          (y, body_answers p h e numbered x none clear plain w.bind k s entry (taken w.bind k (ap (λ z. z.maker) there)), subst (λ j. symbol_at (analysis_of p) j ≡ Some y) w.identifier (has_symbol p h e numbered x none clear plain w.bind k))
 
-      -- where neither the body's binds it nor the parameters'
-      abbrev pub Rest : List Environment → Type 0
-      Rest ds = ((w : IsBoundThere) → w.bind.environment ≡ Body → ⊥) → ((w : IsBoundThere) → w.bind.environment ≡ Own → ⊥) → Matches (or_else Y later) (meaning bs ds x)
+      all_caught : (y : ℕ) → Y ≡ Some y → (is : List ℕ) → ((i : ℕ) → Among i is → Among i (identifiers_in bs Clause x)) → AllAre p is y
+      all_caught y g [] f = tt
+      all_caught y g (i ∷ is) f =
+          let (z, there, symbol) = caught_symbol i (f i (inl refl)) in
+          (symbol ∙ ap Some (some_is z y (sym there ∙ g)), all_caught y g is (λ j a. f j (inr a)))
 
-      -- where the body's binds nothing, or is not there because it is not the function's
-      parameters : (ds : List Environment) → ((w : IsBoundThere) → w.bind.environment ≡ Body → ⊥) → Rest ds → Matches (or_else Y later) (meaning bs (Own ∷ ds) x)
-      parameters ds no_body rest = go (identifiers_in bs Own x) refl
+      -- what is bound there is bound by one of both
+      bound_by_either : identifiers_in bs Block x ≡ [] → identifiers_in bs Clause x ≡ [] → (y : ℕ) → Y ≡ Some y → ⊥
+      bound_by_either i j y g =
+          let w : IsAsked p h e numbered x none clear plain s = asked p h e numbered x none clear plain s y o entry g in
+          elim w.there [
+            | inl maker ↦ (let v : IsBoundThere = made_there w.bind w.among w.named (maker ∙ opener) in
+                none_there Block i v (environment_is v environment.Block (environment_kind_is v.bind.environment.kind environment.Block (subst (λ a. may_make a v.bind.environment.kind ≡ true) block v.makes))))
+            | inr t ↦ by_clause w.bind w.among w.named (of_clause w.bind t)
+          ]
         where
-          go : (is : List ℕ) → identifiers_in bs Own x ≡ is → Matches (or_else Y later) (meaning bs (Own ∷ ds) x)
-          go (i ∷ is) w = here Own ds refl n i is w later
-          go [] w = subst (Matches (or_else Y later)) (sym (meaning_further bs x not_arguments Own ds n.0 w)) (rest no_body (λ v b. none_there Own w v b))
+          by_clause : (b : Bound) → Among b ws → b.name ≡ x → b.environment.maker ≡ clause.node_id → ⊥
+          by_clause b a n maker =
+              let v : IsMade p h e numbered x none plain b = is_made p h e numbered x none plain b (any_bound p h e numbered x none plain b a n) in
+              let same : v.maker ≡ clause = some_is v.maker clause (sym v.found ∙ ap (node_at p) maker ∙ clause_found) in
+              let kinds : b.environment.kind ≡ environment.Catch = environment_kind_is b.environment.kind environment.Catch (subst (λ a. may_make a b.environment.kind ≡ true) (ap (λ z. z.kind) same ∙ caught) v.makes) in
+              subst (Among b.identifier) j (identifier_here ws x Clause ws b a n (λ l. record { kind = kinds l; maker = maker l }))
 
-      pub function : (t : Bool) (ds : List Environment) → (t ≡ false → has_parameter_expressions q ≡ true → ⊥) → Rest ds → Matches (or_else Y later) (meaning bs (cond t (Body ∷ []) [] ++ (Own ∷ ds)) x)
-      function false ds absent rest = parameters ds (λ w b. absent refl (w.body (ap (is_made_for environment.Body) b))) rest
-      function true ds absent rest = go (identifiers_in bs Body x) refl
+      none_bound : identifiers_in bs Block x ≡ [] → identifiers_in bs Clause x ≡ [] → Y ≡ None
+      none_bound i j = go Y refl
         where
-          go : (is : List ℕ) → identifiers_in bs Body x ≡ is → Matches (or_else Y later) (meaning bs (Body ∷ Own ∷ ds) x)
-          go (i ∷ is) w = here Body (Own ∷ ds) refl (refl, refl, refl) i is w later
+          go : (t : Option ℕ) → Y ≡ t → Y ≡ None
+          go None g = g
+          go (Some y) g = absurd (bound_by_either i j y g)
+
+      at_clause : identifiers_in bs Block x ≡ [] → (is : List ℕ) → identifiers_in bs Clause x ≡ is → Matches p (or_else Y later) (meaning bs (Clause ∷ ds) x)
+      at_clause n [] i = subst (Matches p (or_else Y later)) (sym (meaning_further bs x not_arguments Clause ds refl i)) (further later (meaning bs ds x) (none_bound n i) m)
+      at_clause n (i ∷ is) j =
+          let (y, there, symbol) = caught_symbol i (subst (Among i) (sym j) (inl refl)) in
+          subst (Matches p (or_else Y later)) (sym (meaning_here bs x not_arguments Clause ds i is refl j))
+          (y, ap (λ z. or_else z later) there, all_caught y there (i ∷ is) (λ k a. subst (Among k) (sym j) a))
+
+      pub clause_block : Matches p (or_else Y later) (meaning bs (Block ∷ Clause ∷ ds) x)
+      clause_block = go (identifiers_in bs Block x) refl
+        where
+          go : (is : List ℕ) → identifiers_in bs Block x ≡ is → Matches p (or_else Y later) (meaning bs (Block ∷ Clause ∷ ds) x)
+          go (i ∷ is) w = here Block (Clause ∷ ds) refl (refl, refl, refl, refl) i is w later
+          go [] w = subst (Matches p (or_else Y later)) (sym (meaning_further bs x not_arguments Block (Clause ∷ ds) refl w)) (at_clause w (identifiers_in bs Clause x) refl)
+
+    -- ---- a scope that takes no clause over
+
+    module _ (whole : (b : Bound) → IsTakenBy p b s.number → ⊥) where
+      bound_there : (y : ℕ) → Y ≡ Some y → IsBoundThere
+      bound_there y g =
+          let w : IsAsked p h e numbered x none clear plain s = asked p h e numbered x none clear plain s y o entry g in
+          elim w.there [ inl maker ↦ made_there w.bind w.among w.named (maker ∙ opener) | inr t ↦ absurd (whole w.bind t) ]
+
+      -- where no environment of the opener binds the name, nor does the scope
+      pub unanswered : (IsBoundThere → ⊥) → Y ≡ None
+      unanswered n = go Y refl
+        where
+          go : (t : Option ℕ) → Y ≡ t → Y ≡ None
+          go None g = g
+          go (Some y) g = absurd (n (bound_there y g))
+
+      -- one environment
+      pub one : (k : EnvironmentKind) (ds : List Environment) → ((j : EnvironmentKind) → may_make q.kind j ≡ true → j ≡ k) → IsOrdinary k → (later : Option ℕ) → Matches p later (meaning bs ds x) → Matches p (or_else Y later) (meaning bs (record { kind = k; maker = q.node_id } ∷ ds) x)
+      one k ds only n later m = go (identifiers_in bs (record { kind = k; maker = q.node_id }) x) refl
+        where
+          go : (is : List ℕ) → identifiers_in bs (record { kind = k; maker = q.node_id }) x ≡ is → Matches p (or_else Y later) (meaning bs (record { kind = k; maker = q.node_id } ∷ ds) x)
+          go (i ∷ is) w = here (record { kind = k; maker = q.node_id }) ds refl n i is w later
           go [] w =
-              subst (Matches (or_else Y later)) (sym (meaning_further bs x not_arguments Body (Own ∷ ds) refl w))
-              (parameters ds (λ v b. none_there Body w v b) rest)
+              subst (Matches p (or_else Y later)) (sym (meaning_further bs x not_arguments (record { kind = k; maker = q.node_id }) ds n.0 w))
+              (further later (meaning bs ds x) (unanswered (λ v. none_there (record { kind = k; maker = q.node_id }) w v (environment_is v k (only v.bind.environment.kind v.makes)))) m)
 
-    -- an arrow has no other
-    pub arrow_rest : q.kind ≡ kind.ArrowFunctionExpression → (later : Option ℕ) (ds : List Environment) → Matches later (meaning bs ds x) → Rest environment.ArrowParameters (refl, refl, refl) later ds
-    arrow_rest w later ds m no_body no_parameters = further later (meaning bs ds x) (unanswered (λ v. elim (arrow_kinds v.bind.environment.kind (subst (λ a. may_make a v.bind.environment.kind ≡ true) w v.makes)) [
-      | inl b ↦ no_body v (environment_is v environment.Body b)
-      | inr b ↦ no_parameters v (environment_is v environment.ArrowParameters b)
-    ])) m
+      -- a function's, with that of its body where the child stands in it
+      module _ (k : EnvironmentKind) (n : IsOrdinary k) (later : Option ℕ) where
+        abbrev Body : Environment
+        Body = record { kind = environment.Body; maker = q.node_id }
 
-    -- a function has that of its name, which has the symbol of the scope where nothing else does
-    module _ (w : q.kind ≡ kind.Function) (later : Option ℕ) (ds : List Environment) (m : Matches later (meaning bs ds x)) (no_body : (v : IsBoundThere) → v.bind.environment ≡ record { kind = environment.Body; maker = q.node_id } → ⊥) (no_parameters : (v : IsBoundThere) → v.bind.environment ≡ record { kind = environment.Parameters; maker = q.node_id } → ⊥) where
-      abbrev OwnName : Environment
-      OwnName = record { kind = environment.OwnName; maker = q.node_id }
+        abbrev Own : Environment
+        Own = record { kind = k; maker = q.node_id }
 
-      -- all that is bound there is
-      only_own : (v : IsBoundThere) → v.bind.environment ≡ OwnName
-      only_own v = elim (function_kinds v.bind.environment.kind (subst (λ a. may_make a v.bind.environment.kind ≡ true) w v.makes) (no_if_body v.bind v.known)) [
-        | inl b ↦ absurd (no_body v (environment_is v environment.Body b))
-        | inr b ↦ elim b [
-          | inl c ↦ absurd (no_parameters v (environment_is v environment.Parameters c))
-          | inr c ↦ environment_is v environment.OwnName c
+        -- where neither the body's binds it nor the parameters'
+        abbrev pub Rest : List Environment → Type 0
+        Rest ds = ((w : IsBoundThere) → w.bind.environment ≡ Body → ⊥) → ((w : IsBoundThere) → w.bind.environment ≡ Own → ⊥) → Matches p (or_else Y later) (meaning bs ds x)
+
+        -- where the body's binds nothing, or is not there because it is not the function's
+        parameters : (ds : List Environment) → ((w : IsBoundThere) → w.bind.environment ≡ Body → ⊥) → Rest ds → Matches p (or_else Y later) (meaning bs (Own ∷ ds) x)
+        parameters ds no_body rest = go (identifiers_in bs Own x) refl
+          where
+            go : (is : List ℕ) → identifiers_in bs Own x ≡ is → Matches p (or_else Y later) (meaning bs (Own ∷ ds) x)
+            go (i ∷ is) w = here Own ds refl n i is w later
+            go [] w = subst (Matches p (or_else Y later)) (sym (meaning_further bs x not_arguments Own ds n.0 w)) (rest no_body (λ v b. none_there Own w v b))
+
+        pub function : (t : Bool) (ds : List Environment) → (t ≡ false → has_parameter_expressions q ≡ true → ⊥) → Rest ds → Matches p (or_else Y later) (meaning bs (cond t (Body ∷ []) [] ++ (Own ∷ ds)) x)
+        function false ds absent rest = parameters ds (λ w b. absent refl (w.body (ap (is_made_for environment.Body) b))) rest
+        function true ds absent rest = go (identifiers_in bs Body x) refl
+          where
+            go : (is : List ℕ) → identifiers_in bs Body x ≡ is → Matches p (or_else Y later) (meaning bs (Body ∷ Own ∷ ds) x)
+            go (i ∷ is) w = here Body (Own ∷ ds) refl (refl, refl, refl, refl) i is w later
+            go [] w =
+                subst (Matches p (or_else Y later)) (sym (meaning_further bs x not_arguments Body (Own ∷ ds) refl w))
+                (parameters ds (λ v b. none_there Body w v b) rest)
+
+      -- an arrow has no other
+      pub arrow_rest : q.kind ≡ kind.ArrowFunctionExpression → (later : Option ℕ) (ds : List Environment) → Matches p later (meaning bs ds x) → Rest environment.ArrowParameters (refl, refl, refl, refl) later ds
+      arrow_rest w later ds m no_body no_parameters = further later (meaning bs ds x) (unanswered (λ v. elim (arrow_kinds v.bind.environment.kind (subst (λ a. may_make a v.bind.environment.kind ≡ true) w v.makes)) [
+        | inl b ↦ no_body v (environment_is v environment.Body b)
+        | inr b ↦ no_parameters v (environment_is v environment.ArrowParameters b)
+      ])) m
+
+      -- a function has that of its name, which has the symbol of the scope where nothing else does
+      module _ (w : q.kind ≡ kind.Function) (later : Option ℕ) (ds : List Environment) (m : Matches p later (meaning bs ds x)) (no_body : (v : IsBoundThere) → v.bind.environment ≡ record { kind = environment.Body; maker = q.node_id } → ⊥) (no_parameters : (v : IsBoundThere) → v.bind.environment ≡ record { kind = environment.Parameters; maker = q.node_id } → ⊥) where
+        abbrev OwnName : Environment
+        OwnName = record { kind = environment.OwnName; maker = q.node_id }
+
+        -- all that is bound there is
+        only_own : (v : IsBoundThere) → v.bind.environment ≡ OwnName
+        only_own v = elim (function_kinds v.bind.environment.kind (subst (λ a. may_make a v.bind.environment.kind ≡ true) w v.makes) (no_if_body v.bind v.known)) [
+          | inl b ↦ absurd (no_body v (environment_is v environment.Body b))
+          | inr b ↦ elim b [
+            | inl c ↦ absurd (no_parameters v (environment_is v environment.Parameters c))
+            | inr c ↦ environment_is v environment.OwnName c
+          ]
         ]
-      ]
 
-      apart : (c : Bound) → Among c ws → c.name ≡ x → is_bound_as way.OwnName c ≡ false → c.environment.maker ≡ s.opener → ⊥
-      unfolding made_there
-      apart c a n u k = absurd (by (made_there c a n (k ∙ opener)) refl)
-        where
-          by : (v : IsBoundThere) → v.bind ≡ c → ⊥
-          by v same = elim v.known [
-            | inl known ↦ never (sym (ap (is_made_for environment.OwnName) (only_own v)) ∙ known.placed.usual.0)
-            | inr own ↦ never (sym own.own ∙ ap (is_bound_as way.OwnName) same ∙ u)
-          ]
+        apart : (c : Bound) → Among c ws → c.name ≡ x → is_bound_as way.OwnName c ≡ false → c.environment.maker ≡ s.opener → ⊥
+        unfolding made_there
+        apart c a n u k = absurd (by (made_there c a n (k ∙ opener)) refl)
+          where
+            by : (v : IsBoundThere) → v.bind ≡ c → ⊥
+            by v same = elim v.known [
+              | inl known ↦ never (sym (ap (is_made_for environment.OwnName) (only_own v)) ∙ known.placed.usual.0)
+              | inr own ↦ never (sym own.own ∙ ap (is_bound_as way.OwnName) same ∙ u)
+            ]
 
-      own_symbol : (i : ℕ) → Among i (identifiers_in bs OwnName x) → HasSymbol p h e numbered x none clear plain s i
-      own_symbol i a =
-          let v : IsHere OwnName i = is_here OwnName i a in
-          let there : v.bind.environment ≡ OwnName = directly OwnName i refl v in
-          elim v.known [
-            | inl known ↦ absurd (never (sym (ap (is_made_for environment.OwnName) there) ∙ known.placed.usual.0))
-            | inr own ↦ (let maker : own.place.node.node_id ≡ q.node_id = sym (own_maker p h x v.bind own) ∙ ap (λ z. z.maker) there in
-                let familiar : IsFamiliar (node_at p) own.place = each_at (FamiliarAt (node_at p)) (steps p) (entering own.place) (familiar_program p h e numbered) own.entered in
-                let same : own.place.node ≡ q = some_is own.place.node q (sym familiar.node ∙ ap (node_at p) maker ∙ found) in
-                subst (HasSymbol p h e numbered x none clear plain s) v.identifier
-                (function_symbol p h e numbered x none clear plain s o entry v.bind own (opener ∙ sym maker) (ap (λ z. z.kind) same ∙ w) apart))
-          ]
+        own_symbol : (i : ℕ) → Among i (identifiers_in bs OwnName x) → HasSymbol p h e numbered x none clear plain s i
+        own_symbol i a =
+            let v : IsHere OwnName i = is_here OwnName i a in
+            let there : v.bind.environment ≡ OwnName = directly OwnName i refl v in
+            elim v.known [
+              | inl known ↦ absurd (never (sym (ap (is_made_for environment.OwnName) there) ∙ known.placed.usual.0))
+              | inr own ↦ (let maker : own.place.node.node_id ≡ q.node_id = sym (own_maker p h x v.bind own) ∙ ap (λ z. z.maker) there in
+                  let familiar : IsFamiliar (node_at p) own.place = each_at (FamiliarAt (node_at p)) (steps p) (entering own.place) (familiar_program p h e numbered) own.entered in
+                  let same : own.place.node ≡ q = some_is own.place.node q (sym familiar.node ∙ ap (node_at p) maker ∙ found) in
+                  subst (HasSymbol p h e numbered x none clear plain s) v.identifier
+                  (function_symbol p h e numbered x none clear plain s o entry v.bind own (opener ∙ sym maker) (ap (λ z. z.kind) same ∙ w) apart))
+            ]
 
-      all_own : (y : ℕ) → Y ≡ Some y → (is : List ℕ) → ((i : ℕ) → Among i is → Among i (identifiers_in bs OwnName x)) → AllAre is y
-      all_own y g [] f = tt
-      all_own y g (i ∷ is) f =
-          let k : HasSymbol p h e numbered x none clear plain s i = own_symbol i (f i (inl refl)) in
-          (k.is ∙ ap Some (some_is k.symbol y (sym k.bound ∙ g)), all_own y g is (λ j a. f j (inr a)))
+        all_own : (y : ℕ) → Y ≡ Some y → (is : List ℕ) → ((i : ℕ) → Among i is → Among i (identifiers_in bs OwnName x)) → AllAre p is y
+        all_own y g [] f = tt
+        all_own y g (i ∷ is) f =
+            let k : HasSymbol p h e numbered x none clear plain s i = own_symbol i (f i (inl refl)) in
+            (k.is ∙ ap Some (some_is k.symbol y (sym k.bound ∙ g)), all_own y g is (λ j a. f j (inr a)))
 
-      pub own_rest : Matches (or_else Y later) (meaning bs (OwnName ∷ ds) x)
-      own_rest = go (identifiers_in bs OwnName x) refl
-        where
-          go : (is : List ℕ) → identifiers_in bs OwnName x ≡ is → Matches (or_else Y later) (meaning bs (OwnName ∷ ds) x)
-          go [] v =
-              subst (Matches (or_else Y later)) (sym (meaning_further bs x not_arguments OwnName ds refl v))
-              (further later (meaning bs ds x) (unanswered (λ z. none_there OwnName v z (only_own z))) m)
-          go (i ∷ is) v =
-              let k : HasSymbol p h e numbered x none clear plain s i = own_symbol i (subst (Among i) (sym v) (inl refl)) in
-              subst (Matches (or_else Y later)) (sym (meaning_here bs x not_arguments OwnName ds i is refl v))
-              (k.symbol, ap (λ z. or_else z later) k.bound, all_own k.symbol k.bound (i ∷ is) (λ j a. subst (Among j) (sym v) a))
+        pub own_rest : Matches p (or_else Y later) (meaning bs (OwnName ∷ ds) x)
+        own_rest = go (identifiers_in bs OwnName x) refl
+          where
+            go : (is : List ℕ) → identifiers_in bs OwnName x ≡ is → Matches p (or_else Y later) (meaning bs (OwnName ∷ ds) x)
+            go [] v =
+                subst (Matches p (or_else Y later)) (sym (meaning_further bs x not_arguments OwnName ds refl v))
+                (further later (meaning bs ds x) (unanswered (λ z. none_there OwnName v z (only_own z))) m)
+            go (i ∷ is) v =
+                let k : HasSymbol p h e numbered x none clear plain s i = own_symbol i (subst (Among i) (sym v) (inl refl)) in
+                subst (Matches p (or_else Y later)) (sym (meaning_here bs x not_arguments OwnName ds i is refl v))
+                (k.symbol, ap (λ z. or_else z later) k.bound, all_own k.symbol k.bound (i ∷ is) (λ j a. subst (Among j) (sym v) a))

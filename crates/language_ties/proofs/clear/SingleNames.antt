@@ -58,6 +58,16 @@ alone x i (d ∷ ds) h t = (
   alone x i ds (λ e a. h e (inr a)) (omega (arith, t)),
 )
 
+-- one behind another has another identifier
+pub differ : (d e : Declaration) (ds : List Declaration) → Among e ds → times (identifier_of d) (map identifier_of (d ∷ ds)) ≤ 1 → identifier_of d ≡ identifier_of e → ⊥
+differ d e ds a t q =
+    let first : cond {A = ℕ} (identifier_of d == identifier_of d) 1 0 ≡ 1 = here d (identifier_of d) refl in
+    let second : 1 ≤ times (identifier_of d) (map identifier_of ds) = subst (λ k. 1 ≤ times k (map identifier_of ds)) (sym q) (listed e ds a) in
+    omega (arith, first, second, t)
+
+pub fewer : (i : ℕ) (d : Declaration) (ds : List Declaration) → times i (map identifier_of (d ∷ ds)) ≤ 1 → times i (map identifier_of ds) ≤ 1
+fewer i d ds t = omega (arith, t)
+
 none_named : (x : Name) (ds : List Declaration) → ((d : Declaration) → Among d ds → d.naming.name ≡ x → ⊥) → AllKeepClear x ds
 none_named x [] h = tt
 none_named x (d ∷ ds) h = ((λ n e a m. absurd (h d (inl refl) n)), none_named x ds (λ e a. h e (inr a)))

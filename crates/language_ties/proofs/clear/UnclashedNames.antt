@@ -1,5 +1,5 @@
 -- The declarations of a plain name of which no `var` clashes keep clear of each other.
-use Rattle.std.proofs.Common.{◌≡◌, ℕ, List, [], ◌∷◌, ◌++◌, Some, None, Bool, true, false, ◌&&◌, ◌||◌, not, cond, map, flat_map, inl, inr, ◌⊎◌, refl, sym, ap, subst, ◌∙◌, bytes_eq, codes, if◌then◌else◌}
+use Rattle.std.proofs.Common.{◌≡◌, ℕ, ◌≤◌, List, [], ◌∷◌, ◌++◌, Some, None, Bool, true, false, ◌&&◌, ◌||◌, not, cond, map, flat_map, inl, inr, ◌⊎◌, refl, sym, ap, subst, ◌∙◌, bytes_eq, codes, if◌then◌else◌}
 use Rattle.std.specs.List.{list_any}
 use Rattle.std.specs.Prelude.{slice_get}
 use Rattle.std.proofs.lemmas.Bool.{cases_Bool, and_from}
@@ -21,7 +21,7 @@ use Rattle.semantic_tree.specs.Views.{is, has, is_with_text, children_of}
 use Rattle.semantic_tree.specs.declared.node.Node.{Node}
 use Rattle.semantic_model.specs.Binder.{BinderRow, declaration_at, declare_here, variable_row, variables_under, is_pure_declarator, is_statement, is_var, is_block_function, function_row, class_row, ids, parameter_excluded, parameters_under, import_flags, catch_names, declared_by, declared_on_entering}
 use Rattle.semantic_model.specs.Declaration.{Declaration, How, plain, hoisted, moved, caught, here, passed_before, outward_to}
-use Rattle.semantic_model.specs.Entries.{Among}
+use Rattle.semantic_model.specs.Entries.{Among, times}
 use Rattle.semantic_model.specs.Event.{declarations, events}
 use Rattle.semantic_model.specs.Names.{bound_names, bound_below, names_at}
 use Rattle.semantic_model.specs.Place.{Place, OpenScope, parent_holds}
@@ -33,7 +33,7 @@ use Rattle.semantic_model.proofs.lists.Members.{among_left, among_right, among_c
 use Rattle.semantic_model.proofs.once.ListedUnder.{name_tells}
 use Rattle.walk_model.proofs.headers.NoStatements.{is_loose}
 use Rattle.program_laws.proofs.DeclaredNodes.{among_map, among_flat}
-use Rattle.language_ties.specs.AgreeingNames.{is_plain, is_declared_plainly, IsPlainName, IsBoundOutsideWith}
+use Rattle.language_ties.specs.AgreeingNames.{is_declared_plainly, IsPlainName, IsBoundOutsideWith}
 use Rattle.language_ties.specs.Bound as language
 use Rattle.language_ties.specs.Bound.{Bound, bound_identifier, bound_here, bound_outward, bound_by_declarator, bound_by_declaration, bound_by_function, bound_by_class, bound_by_catch, bound_by_node, bound_at, is_bound_as, written}
 use Rattle.language_ties.specs.contracts.bound_as.BoundAs.{the_type as the_ways}
@@ -43,23 +43,29 @@ use Rattle.language_ties.specs.EcmaScript.{is_ecmascript_kind, is_ecmascript}
 use Rattle.language_ties.specs.Environments.{Environment, same_environment, is_made_for, is_outside_body, has_parameter_expressions, made_by, environments, innermost, passed, takes_variables, variable_environment}
 use Rattle.language_ties.specs.Moved.{is_lexical_in, moved as moved_by, unless_barred, bound_of}
 use Rattle.language_ties.specs.Scopes.{maker_of_scope, has_scope, makers}
-use Rattle.language_ties.specs.SharedSymbols.{KeepsClear, AllKeepClear}
+use Rattle.language_ties.specs.SharedSymbols.{IsBoundIn, KeepsClear, AllKeepClear}
 use Rattle.language_ties.specs.declared.bound_as.BoundAs.{BoundAs}
 use Rattle.language_ties.specs.declared.bound_as.BoundAs.TheVariants as bound
 use Rattle.language_ties.specs.declared.environment_kind.EnvironmentKind.{EnvironmentKind}
 use Rattle.language_ties.specs.declared.environment_kind.EnvironmentKind.TheVariants as environment
 use Rattle.language_ties.proofs.EnvironmentsRound.{IsKnown, KnownAt, known_program}
 use Rattle.language_ties.proofs.UndeclaredNames.{each_identifier}
-use Rattle.language_ties.proofs.agree.FamiliarPlaces.{is_function_kind, is_parent, ParentsFit, IsFamiliar, FamiliarAt, familiar_program, known_among}
+use Rattle.language_ties.proofs.agree.FamiliarPlaces.{is_function_kind, is_parent, ParentsFit, AllKnown, IsFamiliar, FamiliarAt, familiar_program, known_among}
 use Rattle.language_ties.proofs.agree.Identifiers.{same_again}
-use Rattle.language_ties.proofs.agree.KnownBounds.{some_is, KnownBound, bodiless}
+use Rattle.language_ties.proofs.agree.KnownBounds.{some_is, KnownBound}
 use Rattle.language_ties.proofs.agree.KnownNodes.{node_at}
 use Rattle.language_ties.proofs.agree.MadeEnvironments.{environment_kind_is, may_make, IsMadeBy, made_in, EndsAtProgram}
-use Rattle.language_ties.proofs.agree.PlainBounds.{no_catch_name, by_one}
+use Rattle.language_ties.proofs.agree.PlainBounds.{by_one}
+use Rattle.language_ties.proofs.caught.CaughtBounds.{IsTakenBy, taken_by}
+use Rattle.language_ties.proofs.caught.CaughtOnce.{caught_once}
+use Rattle.language_ties.proofs.caught.CaughtNames.{catch_environment, catch_kind}
+use Rattle.language_ties.proofs.caught.ClausePlaces.{UnderClause, IsClausal, ClausalAt, clausal_program, body_kind}
+use Rattle.language_ties.proofs.caught.PassedBodies.{clause_passed}
+use Rattle.language_ties.proofs.clear.ParameterPlaces.{parameter_takes}
 use Rattle.language_ties.proofs.clear.PassedScopes.{IsPassed, passes_scope, passed_takes_none, before_among, scope_of_number, route_passes, variables_taken}
-use Rattle.language_ties.proofs.clear.SingleNames.{identifier_of, same_declaration, declared_once}
+use Rattle.language_ties.proofs.clear.SingleNames.{identifier_of, same_declaration, declared_once, differ, fewer}
 use Rattle.language_ties.proofs.own_names.AnyBounds.{AnyBound, any_bound, IsDeclared, is_declared, declared_known, declared_own, IsMade, is_made, own_kind}
-use Rattle.language_ties.proofs.own_names.OwnBounds.{OwnBound}
+use Rattle.language_ties.proofs.own_names.OwnBounds.{IsOfExpression, OwnBound}
 use Rattle.language_ties.proofs.own_names.PassedClasses.{HoldsLoose, LooseAt, loose_program, passes_no_class}
 use Rattle.language_ties.proofs.symbols.OneSymbol.{of_map, each_at, declared_at}
 use Rattle.language_ties.proofs.symbols.ScopeOpeners.{openers, IsOpened, AllOpened, IsPlaceOpened, places_opened}
@@ -263,66 +269,20 @@ module _ (s : SourceType) (q : Place) (x : Name) (none : (b : Bound) → Among b
 
 -- ---- as what a plain name is bound
 
--- the parameters of a function are bound where its variables are
-parameter_takes : (node : Node) (path : List Node) → is_parameter node.kind ≡ true → ParentsFit node.kind path → EndsAtProgram node path → takes_variables (innermost (environments node path)) ≡ true
-parameter_takes node [] k f w = absurd (never (sym k ∙ ap is_parameter w))
-parameter_takes node (y ∷ path) k f w = list_takes path list f.2 w
-  where
-    of_parameter : (j : AstType) → is_parameter j ≡ true → is_parent y.kind j ≡ true → same_kind y.kind kind.FormalParameters ≡ true
-    of_parameter kind.FormalParameter i g = g
-    of_parameter kind.FormalParameterRest i g = g
-    of_parameter _ i g = absurd (never (sym i))
-
-    list : y.kind ≡ kind.FormalParameters
-    list = kind_is y.kind kind.FormalParameters (of_parameter node.kind k f.0)
-
-    function_takes_it : (z : Node) (rest : List Environment) → is_function_kind z.kind ≡ true → takes_variables (innermost (made_by z.kind z y ++ rest)) ≡ true
-    function_takes_it z rest g = by (same_kind kind.Function z.kind) (same_kind kind.ArrowFunctionExpression z.kind) refl refl g
-      where
-        outside : is_outside_body y ≡ true
-        outside = ap (λ i. holds_kind (kind.BindingIdentifier ∷ kind.FormalParameters ∷ []) i) list
-
-        none_round : (not (is_outside_body y) && has_parameter_expressions z) ≡ false
-        none_round = ap (λ b. not b && has_parameter_expressions z) outside
-
-        as_function : (i : AstType) → i ≡ kind.Function → takes_variables (innermost (made_by i z y ++ rest)) ≡ true
-        as_function i q = subst (λ j. takes_variables (innermost (made_by j z y ++ rest)) ≡ true) (sym q)
-            (subst (λ b. takes_variables (innermost ((cond b (record { kind = environment.Body; maker = z.node_id } ∷ []) [] ++ record { kind = environment.Parameters; maker = z.node_id } ∷ record { kind = environment.OwnName; maker = z.node_id } ∷ []) ++ rest)) ≡ true) (sym none_round) refl)
-
-        as_arrow : (i : AstType) → i ≡ kind.ArrowFunctionExpression → takes_variables (innermost (made_by i z y ++ rest)) ≡ true
-        as_arrow i q = subst (λ j. takes_variables (innermost (made_by j z y ++ rest)) ≡ true) (sym q)
-            (subst (λ b. takes_variables (innermost ((cond b (record { kind = environment.Body; maker = z.node_id } ∷ []) [] ++ record { kind = environment.ArrowParameters; maker = z.node_id } ∷ []) ++ rest)) ≡ true) (sym none_round) refl)
-
-        by : (a b : Bool) → same_kind kind.Function z.kind ≡ a → same_kind kind.ArrowFunctionExpression z.kind ≡ b → (a || (b || false)) ≡ true → takes_variables (innermost (made_by z.kind z y ++ rest)) ≡ true
-        by true b i j v = as_function z.kind (sym (kind_is kind.Function z.kind i))
-        by false true i j v = as_arrow z.kind (sym (kind_is kind.ArrowFunctionExpression z.kind j))
-        by false false i j v = absurd (never (sym v))
-
-    or_first : (a b : Bool) → (a || not b) ≡ true → b ≡ true → a ≡ true
-    or_first true b i j = refl
-    or_first false true i j = absurd (never (sym i))
-    or_first false false i j = absurd (never (sym j))
-
-    list_takes : (path : List Node) → y.kind ≡ kind.FormalParameters → ParentsFit y.kind path → EndsAtProgram y path → takes_variables (innermost (made_by y.kind y node ++ environments y path)) ≡ true
-    list_takes [] q g v = let u : kind.Program ≡ kind.FormalParameters = sym v ∙ q in absurd cc
-    list_takes (z ∷ path) q g v =
-        let parent : is_parent z.kind kind.FormalParameters ≡ true = subst (λ i. is_parent z.kind i ≡ true) q g.0 in
-        subst (λ i. takes_variables (innermost (made_by i y node ++ environments y (z ∷ path))) ≡ true) (sym q)
-        (function_takes_it z (environments z path) (or_first (is_function_kind z.kind) (is_ecmascript_kind z.kind) parent g.1))
-
+-- lexically, where variables go, or as a plain catch name
 abbrev LexicalOrTaken : Bound → Type 0
-LexicalOrTaken b = (is_lexical_in b.environment b ≡ true) ⊎ (takes_variables b.environment ≡ true)
+LexicalOrTaken b = (is_lexical_in b.environment b ≡ true) ⊎ ((takes_variables b.environment ≡ true) ⊎ (is_bound_as bound.CatchName b ≡ true))
 
 by_lexical : (b : Bound) → is_bound_as bound.Lexical b ≡ true → LexicalOrTaken b
 by_lexical b l = inl (and_from (same_environment b.environment b.environment) _ (same_again b.environment) (ap (λ t. t || (is_bound_as bound.Function b && not (takes_variables b.environment))) l))
 
 by_function : (b : Bound) → is_bound_as bound.Function b ≡ true → LexicalOrTaken b
 by_function b f = elim (cases_Bool (takes_variables b.environment)) [
-  | inl t ↦ inr t
+  | inl t ↦ inr (inl t)
   | inr t ↦ inl (and_from (same_environment b.environment b.environment) _ (same_again b.environment) (ap (λ u. is_bound_as bound.Lexical b || u) (rw (f, t) refl) ∙ or_true (is_bound_as bound.Lexical b)))
 ]
 
-module _ (s : SourceType) (q : Place) (f : ParentsFit q.node.kind q.path) (rooted : EndsAtProgram q.node q.path) (b : Bound) (plain_bound : is_declared_plainly b ≡ true) (no_own : is_bound_as bound.OwnName b ≡ false) where
+module _ (s : SourceType) (q : Place) (f : ParentsFit q.node.kind q.path) (rooted : EndsAtProgram q.node q.path) (b : Bound) (no_own : is_bound_as bound.OwnName b ≡ false) where
   lexical_names : (es : List Environment) (names : List Node) → Among b (map (bound_here bound.Lexical es) names) → LexicalOrTaken b
   lexical_names es names a = let (n, c, i) = among_map (bound_here bound.Lexical es) names b a in by_lexical b (sym (ap (is_bound_as bound.Lexical) i))
 
@@ -333,7 +293,7 @@ module _ (s : SourceType) (q : Place) (f : ParentsFit q.node.kind q.path) (roote
       go : (t : Bool) → Among b (map (cond t (bound_outward (environments q.node (y ∷ path))) (bound_here bound.Lexical (environments q.node (y ∷ path)))) (bound_names q.node)) → LexicalOrTaken b
       go true c =
           let (n, d, i) = among_map (bound_outward (environments q.node (y ∷ path))) (bound_names q.node) b c in
-          inr (subst (λ z. takes_variables z ≡ true) (ap (λ z. z.environment) i) (variables_taken q.node y path (subst (EndsAtProgram q.node) e rooted)))
+          inr (inl (subst (λ z. takes_variables z ≡ true) (ap (λ z. z.environment) i) (variables_taken q.node y path (subst (EndsAtProgram q.node) e rooted))))
       go false c = lexical_names (environments q.node (y ∷ path)) (bound_names q.node) c
 
   function_sort : (n : Node) → is_bound_as bound.Function (bound_by_declaration s q.node q.path n) ≡ true
@@ -368,7 +328,7 @@ module _ (s : SourceType) (q : Place) (f : ParentsFit q.node.kind q.path) (roote
   parameter : is_parameter q.node.kind ≡ true → Among b (map (bound_here bound.Parameter (environments q.node q.path)) (bound_names q.node)) → LexicalOrTaken b
   parameter k a =
       let (n, c, i) = among_map (bound_here bound.Parameter (environments q.node q.path)) (bound_names q.node) b a in
-      inr (subst (λ z. takes_variables z ≡ true) (ap (λ z. z.environment) i) (parameter_takes q.node q.path k f rooted))
+      inr (inl (subst (λ z. takes_variables z ≡ true) (ap (λ z. z.environment) i) (parameter_takes q.node q.path k f rooted)))
 
   catch : (patterns : List Node) → Among b (flat_map (bound_by_catch (environments q.node q.path)) patterns) → LexicalOrTaken b
   catch patterns a =
@@ -378,7 +338,7 @@ module _ (s : SourceType) (q : Place) (f : ParentsFit q.node.kind q.path) (roote
       go : (t : Bool) (n : Node) → Among b (map (bound_here (cond t bound.CatchName bound.Lexical) (environments q.node q.path)) (bound_names n)) → LexicalOrTaken b
       go true n c =
           let (m, d, i) = among_map (bound_here bound.CatchName (environments q.node q.path)) (bound_names n) b c in
-          absurd (never (ap (is_bound_as bound.CatchName) i ∙ no_catch_name b plain_bound))
+          inr (inr (sym (ap (is_bound_as bound.CatchName) i)))
       go false n c = lexical_names (environments q.node q.path) (bound_names n) c
 
   lexical_or_taken : (k : AstType) → q.node.kind ≡ k → Among b (bound_by_node k s q.node q.path) → LexicalOrTaken b
@@ -527,9 +487,12 @@ module _ (p : Tree) (h : first_fault p ≡ None) (e : is_ecmascript p ≡ true) 
       let passing : Passes v.bind w.bind = passes_it d v how n i w.bind (is_declared p h e numbered x none plain_name w.bind any) (is_made p h e numbered x none plain_name w.bind any) (ap (λ z. z.route.target.number) (declared_known p h e numbered x none plain_name w.bind w.known) ∙ t) in
       let r : Place = w.known.declares.place in
       let familiar : IsFamiliar (node_at p) r = familiar_at r w.known.declares.entered in
-      elim (lexical_or_taken p.source_type r familiar.parents familiar.rooted w.bind w.known.plainly w.known.no_own r.node.kind refl w.known.declares.binds) [
+      elim (lexical_or_taken p.source_type r familiar.parents familiar.rooted w.bind w.known.no_own r.node.kind refl w.known.declares.binds) [
         | inl lexical ↦ clash v.bind w.bind v.among w.among v.named w.named passing.var w.known.plainly lexical passing.among
-        | inr taken ↦ never (sym taken ∙ passing.takes_none)
+        | inr other ↦ elim other [
+          | inl taken ↦ never (sym taken ∙ passing.takes_none)
+          | inr named ↦ plain_name.unpassed w.bind v.bind w.among v.among w.named v.named named passing.var passing.among
+        ]
       ]
 
   -- nor that of an expression with that name
@@ -548,28 +511,98 @@ module _ (p : Tree) (h : first_fault p ≡ None) (e : is_ecmascript p ≡ true) 
   nowhere : (n : ℕ) → None ≡ Some n → ⊥
   nowhere n z = absurd cc
 
-  never_caught_name : (b : Bound) → is_plain b ≡ true → is_bound_as bound.CatchName b ≡ false
-  never_caught_name b k = elim (cases_Bool (is_bound_as bound.CatchName b)) [
-    | inr q ↦ q
-    | inl q ↦ (let sort : b.sort ≡ bound.CatchName = same_true the_ways tt b.sort bound.CatchName q in
-        let own : is_bound_as bound.OwnName b ≡ false = ap (λ w. is_bound_as bound.OwnName (record b { sort = w })) sort in
-        no_catch_name b (subst (λ t. (t || is_declared_plainly b) ≡ true) own k))
-  ]
+  -- ---- a plain catch name has its clause to itself
 
-  caught_never : (d : Declaration) (v : IsExplained d) → v.known.declares.declaration.how ≡ caught → ⊥
-  caught_never d v how =
+  -- a catch name of the place binds in the clause's environment
+  record IsCaught (q : Place) : Type 0 where
+    bind : Bound
+    among : Among bind ws
+    named : bind.name ≡ x
+    caught : is_bound_as bound.CatchName bind ≡ true
+    of_parameter : q.node.kind ≡ kind.CatchParameter
+    here : bind.environment ≡ innermost (environments q.node q.path)
+
+  clause_of : (q : Place) → Among (entering q) (steps p) → q.node.kind ≡ kind.CatchParameter → (y : Node) × (node_at p y.node_id ≡ Some y) × (y.kind ≡ kind.CatchClause) × ((innermost (environments q.node q.path)).maker ≡ y.node_id)
+  clause_of q a k = go q.path refl
+    where
+      clausal : IsClausal (node_at p) q
+      clausal = each_at (ClausalAt (node_at p)) (steps p) (entering q) (clausal_program p h e numbered) a
+
+      go : (l : List Node) → q.path ≡ l → (y : Node) × (node_at p y.node_id ≡ Some y) × (y.kind ≡ kind.CatchClause) × ((innermost (environments q.node q.path)).maker ≡ y.node_id)
+      go [] w = absurd (subst (UnderClause (node_at p)) w (clausal.parameter k))
+      go (y ∷ l) w =
+          let clause : y.kind ≡ kind.CatchClause = subst (UnderClause (node_at p)) w (clausal.parameter k) in
+          let known : AllKnown (node_at p) (y ∷ l) = subst (AllKnown (node_at p)) w (familiar_at q a).path in
+          (y, known.0, clause, ap (λ r. (innermost (environments q.node r)).maker) w ∙ ap (λ i. (innermost (made_by i y q.node ++ environments y l)).maker) clause)
+
+  -- the scope where it is declared has no other declaration of the name, and is no clause's body
+  caught_apart : (d c : Declaration) (v : IsExplained d) (w : IsExplained c) → (identifier_of d ≡ identifier_of c → ⊥) → IsCaught v.known.declares.place → IsBoundIn w.known.declares.declaration v.known.declares.declaration.route.target.number → ⊥
+  caught_apart d c v w differs k (inl number) =
       let q : Place = v.known.declares.place in
-      let familiar : IsFamiliar (node_at p) q = familiar_at q v.known.declares.entered in
-      none_caught p.source_type q x (λ b a n. never_caught_name b (plain_name b (among_written p.source_type b q (steps p) v.known.declares.entered a) n)) q.node.kind refl familiar.ecmascript v.known.declares.declaration v.known.declares.told v.known.declares.named how
+      let binds : Among v.bind (bound_by_node kind.CatchParameter p.source_type q.node q.path) = subst (λ i. Among v.bind (bound_by_node i p.source_type q.node q.path)) k.of_parameter v.known.declares.binds in
+      let environment_is : v.bind.environment ≡ k.bind.environment = catch_environment p.source_type q.node q.path v.bind binds ∙ sym k.here in
+      let openers_are : Some w.known.declares.declaration.route.target.opener ≡ Some v.known.declares.declaration.route.target.opener = sym w.known.declares.opened ∙ ap (slice_get (openers (steps p))) number ∙ v.known.declares.opened in
+      let maker : w.bind.environment.maker ≡ k.bind.environment.maker =
+      sym w.known.declares.maker ∙ some_is w.known.declares.declaration.route.target.opener v.known.declares.declaration.route.target.opener openers_are ∙ v.known.declares.maker ∙ ap (λ z. z.maker) environment_is in
+      let first : v.bind.identifier ≡ k.bind.identifier = caught_once p h e numbered x none k.bind v.bind k.among v.among k.named v.named k.caught (ap (λ z. z.maker) environment_is) in
+      let second : w.bind.identifier ≡ k.bind.identifier = caught_once p h e numbered x none k.bind w.bind k.among w.among k.named w.named k.caught maker in
+      differs (ap identifier_of (sym v.same) ∙ v.known.declares.identifier ∙ first ∙ sym second ∙ sym w.known.declares.identifier ∙ ap identifier_of w.same)
+  caught_apart d c v w differs k (inr body) =
+      let q : Place = v.known.declares.place in
+      let (y, found, clause, maker) = clause_of q v.known.declares.entered k.of_parameter in
+      let binds : Among v.bind (bound_by_node kind.CatchParameter p.source_type q.node q.path) = subst (λ i. Among v.bind (bound_by_node i p.source_type q.node q.path)) k.of_parameter v.known.declares.binds in
+      let n : ℕ = v.known.declares.declaration.route.target.number in
+      let t : IsTakenBy p w.bind n = taken_by p h e numbered x none plain_name w.bind (inl w.known) n (ap (λ z. z.route.target.body) (declared_known p h e numbered x none plain_name w.bind w.known) ∙ body) in
+      let opener : v.known.declares.declaration.route.target.opener ≡ y.node_id = v.known.declares.maker ∙ ap (λ z. z.maker) (catch_environment p.source_type q.node q.path v.bind binds) ∙ maker in
+      let node : t.place.node.node_id ≡ y.node_id = some_is t.place.node.node_id y.node_id (sym t.opened ∙ v.known.declares.opened ∙ ap Some opener) in
+      let same : t.place.node ≡ y = some_is t.place.node y (sym (familiar_at t.place t.entered).node ∙ ap (node_at p) node ∙ found) in
+      different (sym (body_kind t.place t.is_body) ∙ ap (λ z. z.kind) same ∙ clause)
+    where
+      different : kind.BlockStatement ≡ kind.CatchClause → ⊥
+      different i = absurd cc
 
-  keeps_clear : (d c : Declaration) → IsExplained d → IsExplained c → KeepsClear d c
-  keeps_clear d c v w = subst (λ z. KeepsClear z c) v.same (subst (KeepsClear v.known.declares.declaration) w.same (record {
+  caught_clear : (d c : Declaration) (v : IsExplained d) (w : IsExplained c) → (identifier_of d ≡ identifier_of c → ⊥) → v.known.declares.declaration.how ≡ caught → IsBoundIn w.known.declares.declaration v.known.declares.declaration.route.target.number → ⊥
+  caught_clear d c v w differs how b =
+      none_caught p.source_type q x (λ i a n. either i a n (is_bound_as bound.CatchName i) refl) q.node.kind refl familiar.ecmascript v.known.declares.declaration v.known.declares.told v.known.declares.named how
+    where
+      q : Place
+      q = v.known.declares.place
+
+      familiar : IsFamiliar (node_at p) q
+      familiar = familiar_at q v.known.declares.entered
+
+      either : (i : Bound) → Among i (bound_by_node q.node.kind p.source_type q.node q.path) → i.name ≡ x → (t : Bool) → is_bound_as bound.CatchName i ≡ t → is_bound_as bound.CatchName i ≡ false
+      either i a n false k = k
+      either i a n true k =
+          let parameter : q.node.kind ≡ kind.CatchParameter = catch_kind p.source_type q.node q.path i k q.node.kind a in
+          absurd (caught_apart d c v w differs (record {
+            bind = i;
+            among = among_written p.source_type i q (steps p) v.known.declares.entered a;
+            named = n;
+            caught = k;
+            of_parameter = parameter;
+            here = catch_environment p.source_type q.node q.path i (subst (λ j. Among i (bound_by_node j p.source_type q.node q.path)) parameter a);
+          }) b)
+
+  -- ---- all declarations
+
+  -- a `var` that passes what takes a declaration over passes its scope
+  passes_body : (d c : Declaration) (v : IsExplained d) (w : IsExplained c) → v.known.declares.declaration.how ≡ hoisted → (n : ℕ) → contains (map (λ s. s.number) v.known.declares.declaration.route.passed) n ≡ true → w.known.declares.declaration.route.target.body ≡ Some n → ⊥
+  passes_body d c v w how n i t =
+      let q : Place = v.known.declares.place in
+      let variable : IsVariable q v.known.declares.declaration = hoisted_is q v.known.declares.declaration v.known.declares.told how in
+      let passes : contains (map (λ s. s.number) (outward_to is_var q.chain).passed) n ≡ true = subst (λ r. contains (map (λ s. s.number) r.passed) n ≡ true) variable.route i in
+      let further : contains (map (λ s. s.number) (outward_to is_var q.chain).passed) w.known.declares.declaration.route.target.number ≡ true = clause_passed p h e numbered x none plain_name w.bind w.known n t q v.known.declares.entered passes in
+      passes_none d c v w how w.known.declares.declaration.route.target.number (subst (λ r. contains (map (λ s. s.number) r.passed) w.known.declares.declaration.route.target.number ≡ true) (sym variable.route) further) refl
+
+  keeps_clear : (d c : Declaration) → IsExplained d → IsExplained c → (identifier_of d ≡ identifier_of c → ⊥) → KeepsClear d c
+  keeps_clear d c v w differs = subst (λ z. KeepsClear z c) v.same (subst (KeepsClear v.known.declares.declaration) w.same (record {
     as_variable = λ how n i b. elim b [
       | inl t ↦ passes_none d c v w how n i t
-      | inr t ↦ nowhere n (sym (bodiless p h e numbered x none plain_name w.bind w.known) ∙ t)
+      | inr t ↦ passes_body d c v w how n i t
     ];
     as_function = λ how m. v.known.declares.unmoved how;
-    as_catch_name = λ how b. caught_never d v how;
+    as_catch_name = caught_clear d c v w differs;
   }))
 
   -- an own name goes nowhere
@@ -584,6 +617,38 @@ module _ (p : Tree) (h : first_fault p ≡ None) (e : is_ecmascript p ≡ true) 
       moved_is_not : plain ≡ moved → ⊥
       moved_is_not z = absurd cc
 
+  -- nor is it declared in the scope of a clause
+  apart_from_own : (d c : Declaration) (v : IsExplained d) (w : IsOwned c) → v.known.declares.declaration.how ≡ caught → w.owned.declaration.route.target.number ≡ v.known.declares.declaration.route.target.number → ⊥
+  apart_from_own d c v w how number =
+      none_caught p.source_type q x (λ i a n. either i a (is_bound_as bound.CatchName i) refl) q.node.kind refl (familiar_at q v.known.declares.entered).ecmascript v.known.declares.declaration v.known.declares.told v.known.declares.named how
+    where
+      q : Place
+      q = v.known.declares.place
+
+      function : kind.Function ≡ kind.CatchClause → ⊥
+      function z = absurd cc
+
+      class : kind.Class ≡ kind.CatchClause → ⊥
+      class z = absurd cc
+
+      by_sort : IsOfExpression w.owned.place.node w.bind.environment → w.owned.place.node.kind ≡ kind.CatchClause → ⊥
+      by_sort (inl z) k = function (sym z.0 ∙ k)
+      by_sort (inr z) k = class (sym z.0 ∙ k)
+
+      in_clause : q.node.kind ≡ kind.CatchParameter → ⊥
+      in_clause parameter =
+          let (y, found, clause, maker) = clause_of q v.known.declares.entered parameter in
+          let binds : Among v.bind (bound_by_node kind.CatchParameter p.source_type q.node q.path) = subst (λ k. Among v.bind (bound_by_node k p.source_type q.node q.path)) parameter v.known.declares.binds in
+          let opener : v.known.declares.declaration.route.target.opener ≡ y.node_id = v.known.declares.maker ∙ ap (λ z. z.maker) (catch_environment p.source_type q.node q.path v.bind binds) ∙ maker in
+          let own_number : w.owned.scope.number ≡ v.known.declares.declaration.route.target.number = ap (λ z. z.number) (sym w.owned.target) ∙ number in
+          let node : w.owned.place.node.node_id ≡ y.node_id = sym w.owned.opener ∙ some_is w.owned.scope.opener v.known.declares.declaration.route.target.opener (sym w.owned.opened ∙ ap (slice_get (openers (steps p))) own_number ∙ v.known.declares.opened) ∙ opener in
+          let same : w.owned.place.node ≡ y = some_is w.owned.place.node y (sym (familiar_at w.owned.place w.owned.entered).node ∙ ap (node_at p) node ∙ found) in
+          by_sort w.owned.named_by.sort (ap (λ z. z.kind) same ∙ clause)
+
+      either : (i : Bound) → Among i (bound_by_node q.node.kind p.source_type q.node q.path) → (t : Bool) → is_bound_as bound.CatchName i ≡ t → is_bound_as bound.CatchName i ≡ false
+      either i a false k = k
+      either i a true k = absurd (in_clause (catch_kind p.source_type q.node q.path i k q.node.kind a))
+
   -- and nothing passes it: a `var` passes neither a function nor a class
   keeps_from_own : (d c : Declaration) → IsExplained d → IsOwned c → KeepsClear d c
   keeps_from_own d c v w = subst (λ z. KeepsClear z c) v.same (subst (KeepsClear v.known.declares.declaration) w.same (record {
@@ -592,20 +657,26 @@ module _ (p : Tree) (h : first_fault p ≡ None) (e : is_ecmascript p ≡ true) 
       | inr t ↦ nowhere n (sym (ap (λ s. s.body) w.owned.target ∙ w.owned.bodiless) ∙ t)
     ];
     as_function = λ how m. v.known.declares.unmoved how;
-    as_catch_name = λ how b. caught_never d v how;
+    as_catch_name = λ how b. elim b [
+      | inl t ↦ apart_from_own d c v w how t
+      | inr t ↦ nowhere v.known.declares.declaration.route.target.number (sym (ap (λ s. s.body) w.owned.target ∙ w.owned.bodiless) ∙ t)
+    ];
   }))
 
-  keep_any : (d c : Declaration) → IsExplained d ⊎ IsOwned d → IsExplained c ⊎ IsOwned c → KeepsClear d c
-  keep_any d c (inl v) (inl w) = keeps_clear d c v w
-  keep_any d c (inl v) (inr w) = keeps_from_own d c v w
-  keep_any d c (inr v) w = own_keeps d c v
+  keep_any : (d c : Declaration) → IsExplained d ⊎ IsOwned d → IsExplained c ⊎ IsOwned c → (identifier_of d ≡ identifier_of c → ⊥) → KeepsClear d c
+  keep_any d c (inl v) (inl w) differs = keeps_clear d c v w differs
+  keep_any d c (inl v) (inr w) differs = keeps_from_own d c v w
+  keep_any d c (inr v) w differs = own_keeps d c v
 
-  clear_list : (cs : List Declaration) → ((d : Declaration) → Among d cs → Among d ds) → AllKeepClear x cs
-  clear_list [] k = tt
-  clear_list (d ∷ cs) k = (
-    λ n c a m. (let v : IsExplained d ⊎ IsOwned d = explained d (k d (inl refl)) n in let w : IsExplained c ⊎ IsOwned c = explained c (k c (inr a)) m in (keep_any d c v w, keep_any c d w v)),
-    clear_list cs (λ c a. k c (inr a)),
+  clear_list : (cs : List Declaration) → ((d : Declaration) → Among d cs → Among d ds) → ((i : ℕ) → times i (map identifier_of cs) ≤ 1) → AllKeepClear x cs
+  clear_list [] k t = tt
+  clear_list (d ∷ cs) k t = (
+    λ n c a m. (let v : IsExplained d ⊎ IsOwned d = explained d (k d (inl refl)) n in
+        let w : IsExplained c ⊎ IsOwned c = explained c (k c (inr a)) m in
+        let differs : identifier_of d ≡ identifier_of c → ⊥ = differ d c cs a (t (identifier_of d)) in
+        (keep_any d c v w differs, keep_any c d w v (λ i. differs (sym i)))),
+    clear_list cs (λ c a. k c (inr a)) (λ i. fewer i d cs (t i)),
   )
 
   pub unclashed_clear : AllKeepClear x ds
-  unclashed_clear = clear_list ds (λ d a. a)
+  unclashed_clear = clear_list ds (λ d a. a) (λ i. declared_once p i h numbered)

@@ -1,10 +1,13 @@
 -- As the header of a function ends, its scope binds a plain name to the symbol of what the environment of its parameters binds.
 use Rattle.std.proofs.Common.{◌≡◌, ℕ, ◌==◌, List, [], ◌∷◌, Option, Some, None, Bool, true, false, ◌||◌, cond, filter, inl, inr, refl, sym, ap, subst, ◌∙◌, bytes_eq}
-use Rattle.std.specs.Prelude.{slice_get}
+use Rattle.std.specs.Prelude.{slice_get, fold}
+use Rattle.std.proofs.lemmas.Bool.{cases_Bool}
 use Rattle.std.proofs.lemmas.Bool.Decides.{eqb_tells}
 use Rattle.semantic_syntax.proofs.Truth.{and_second}
 use Rattle.semantic_kinds.specs.Kinds.{same_kind}
 use Rattle.semantic_kinds.specs.declared.kind.AstType.TheVariants as kind
+use Rattle.semantic_syntax.specs.Lookup.{Seen}
+use Rattle.semantic_syntax.specs.Sets.{union}
 use Rattle.semantic_syntax.specs.Tables.{Name}
 use Rattle.semantic_syntax.specs.declared.source_type.SourceType.{SourceType}
 use Rattle.semantic_tree.specs.Faults.{first_fault}
@@ -22,7 +25,7 @@ use Rattle.semantic_model.specs.Hoist.{run}
 use Rattle.semantic_model.specs.Place as place
 use Rattle.semantic_model.specs.Place.{Place, OpenScope}
 use Rattle.semantic_model.specs.Step.{Step, entering, steps}
-use Rattle.semantic_model.specs.Tie.{until_end_of}
+use Rattle.semantic_model.specs.Tie.{seen_as, until_end_of}
 use Rattle.semantic_model.proofs.bindings.NearestVar.{nearest}
 use Rattle.semantic_model.proofs.fits.NothingInvented.{made_declared}
 use Rattle.semantic_model.proofs.fold.Changes.{sound_start}
@@ -34,7 +37,7 @@ use Rattle.semantic_model.proofs.once.ListedUnder.{name_tells}
 use Rattle.semantic_syntax.specs.Members.{contains}
 use Rattle.walk_model.proofs.headers.Headed.{awaiting_past, AllMatch}
 use Rattle.tangle_model.specs.Surroundings.{in_with_under}
-use Rattle.binding_laws.specs.SeenDeclarations.{is_own_name, stands_before_body, is_before_body}
+use Rattle.binding_laws.specs.SeenDeclarations.{is_own_name, stands_before_body, is_before_body, seen_alone, with_declaration, bound_by_all}
 use Rattle.binding_laws.proofs.CutEvents.{IsBefore, Cut, no_end, ended, not_yet}
 use Rattle.binding_laws.proofs.CutSteps.{WillAwait, cut_program}
 use Rattle.binding_laws.proofs.HeaderFold.{IsCutAt, cut_at, header_start}
@@ -43,7 +46,8 @@ use Rattle.binding_laws.proofs.SymbolsAtNodes.{symbols_are_at_nodes}
 use Rattle.language_ties.specs.AgreeingNames.{IsPlainName, IsBoundOutsideWith}
 use Rattle.language_ties.specs.Bound.{Bound, bound_by_node, is_bound_as, written}
 use Rattle.language_ties.specs.EcmaScript.{is_ecmascript}
-use Rattle.language_ties.specs.Environments.{Environment, is_made_for, has_parameter_expressions, environments, innermost, first_taking, environment_or}
+use Rattle.language_ties.specs.Environments.{Environment, same_environment_kind, is_made_for, has_parameter_expressions, environments, innermost, takes_variables, first_taking, environment_or}
+use Rattle.language_ties.specs.OneSymbol.{HaveOneSymbol}
 use Rattle.language_ties.specs.SharedSymbols.{AllKeepClear}
 use Rattle.language_ties.specs.declared.bound_as.BoundAs.TheVariants as bound
 use Rattle.language_ties.specs.declared.environment_kind.EnvironmentKind.TheVariants as environment
@@ -51,16 +55,19 @@ use Rattle.language_ties.proofs.UndeclaredNames.{each_identifier}
 use Rattle.language_ties.proofs.agree.Answers.{symbol_of, has_symbol, answers}
 use Rattle.language_ties.proofs.agree.KnownBounds.{some_is, KnownBound, bodiless}
 use Rattle.language_ties.proofs.agree.KnownNodes.{node_at}
+use Rattle.language_ties.proofs.agree.MadeEnvironments.{environment_kind_is}
+use Rattle.language_ties.proofs.caught.CaughtBounds.{IsTakenBy, taken_by}
+use Rattle.language_ties.proofs.caught.ClausePlaces.{IsClausal, ClausalAt, clausal_program, body_kind}
 use Rattle.language_ties.proofs.clear.SingleNames.{identifier_of, same_declaration, declared_once}
 use Rattle.language_ties.proofs.headers.Paired.{by_kind}
 use Rattle.language_ties.proofs.headers.Sides.{is_parameters, Side, TakingSide, Sides, SidesAt, sides_program}
 use Rattle.language_ties.proofs.own_names.AnyBounds.{AnyBound, any_bound, IsDeclared, is_declared, declared_known}
 use Rattle.language_ties.proofs.own_names.OwnBounds.{IsOfExpression, OwnBound, own_maker}
 use Rattle.language_ties.proofs.own_names.OwnSymbols.{one_name}
-use Rattle.language_ties.proofs.shared.HomesShared.{is_made, until_among, until_stays, at_header}
+use Rattle.language_ties.proofs.shared.HomesShared.{share_symbols, is_made, until_among, until_stays, at_header}
 use Rattle.language_ties.proofs.shared.Runs.{SharedAtLast}
 use Rattle.language_ties.proofs.shared.Shared.{IsNowIn, IsBoundNow, BoundBy}
-use Rattle.language_ties.proofs.symbols.OneSymbol.{each_at}
+use Rattle.language_ties.proofs.symbols.OneSymbol.{each_at, one_symbol}
 use Rattle.language_ties.proofs.symbols.ScopeOpeners.{openers, IsOpened, one_scope}
 
 never : true ≡ false → ⊥
@@ -162,6 +169,44 @@ module _ (p : Tree) (h : first_fault p ≡ None) (e : is_ecmascript p ≡ true) 
             (target_side (node_at p) q.chain (passed_before is_var q.chain) (environments q.node q.path) (first_with is_var q.chain) (first_taking (environments q.node q.path)) both.taking both.inner))
       ]
 
+  -- what a clause binds is declared in the innermost scope of its place, in the header
+  caught_target : (b : Bound) → b.name ≡ x → (k : Known b) → is_made_for environment.Catch b.environment ≡ true → k.declares.declaration.route.target ≡ place.innermost k.declares.place.chain
+  caught_target b n k caught =
+      let q : Place = k.declares.place in
+      let apart : in_with_under q.path ≡ false = none q k.declares.entered b k.declares.binds n in
+      let both : Sides (node_at p) q.chain (environments q.node q.path) = each_at (SidesAt (node_at p)) (steps p) (entering q) (sides_program p h e numbered) k.declares.entered (no_identifier p.source_type q b k.declares.binds) apart in
+      elim (by_kind p.source_type q k.declares.declaration b q.node.kind k.declares.unmoved k.declares.told k.declares.binds) [
+        | inl w ↦ ap (λ r. r.target) w.0
+        | inr w ↦ ap (λ r. r.target) w.0 ∙ outward q.chain (environments q.node q.path) (first_with is_var q.chain) (first_taking (environments q.node q.path)) refl both.taking (subst (λ d. is_made_for environment.Catch d ≡ true) w.1 caught)
+      ]
+    where
+      takes_first : (ds : List Environment) (d : Environment) → first_taking ds ≡ Some d → takes_variables d ≡ true
+      takes_first [] d i = absurd cc
+      takes_first (c ∷ ds) d i = go (takes_variables c) refl i (takes_first ds d)
+        where
+          go : (t : Bool) → takes_variables c ≡ t → cond t (Some c) (first_taking ds) ≡ Some d → (first_taking ds ≡ Some d → takes_variables d ≡ true) → takes_variables d ≡ true
+          go true j l more = subst (λ z. takes_variables z ≡ true) (some_is c d l) j
+          go false j l more = more l
+
+      no_catch : (d : Environment) → is_made_for environment.Catch d ≡ true → takes_variables d ≡ false
+      no_catch d i = ap (λ z. takes_variables (record { kind = z; maker = d.maker })) (environment_kind_is d.kind environment.Catch i)
+
+      outward : (chain : List OpenScope) (ds : List Environment) (o : Option OpenScope) (t : Option Environment) → first_taking ds ≡ t → TakingSide (node_at p) o t → is_made_for environment.Catch (environment_or (innermost ds) t) ≡ true → (route_from chain (passed_before is_var chain) o).target ≡ place.innermost chain
+      outward chain ds None t i v c = refl
+      outward chain ds (Some s) None i v c = absurd v
+      outward chain ds (Some s) (Some d) i v c = absurd (never (sym (takes_first ds d i) ∙ no_catch d c))
+
+  pub caught_in_header : (b : Bound) → b.name ≡ x → (k : Known b) → is_made_for environment.Catch b.environment ≡ true → (y : Node) → node_at p b.environment.maker ≡ Some y → y.kind ≡ kind.CatchClause → k.declares.declaration.route.target.in_header ≡ true
+  caught_in_header b n k caught y f c =
+      let q : Place = k.declares.place in
+      let target : k.declares.declaration.route.target ≡ place.innermost q.chain = caught_target b n k caught in
+      let clausal : IsClausal (node_at p) q = each_at (ClausalAt (node_at p)) (steps p) (entering q) (clausal_program p h e numbered) k.declares.entered in
+      let opener : (place.innermost q.chain).opener ≡ b.environment.maker = ap (λ s. s.opener) (sym target) ∙ k.declares.maker in
+      elim (clausal.stands y (ap (node_at p) opener ∙ f) c) [
+        | inl w ↦ ap (λ s. s.in_header) target ∙ w
+        | inr w ↦ absurd (subst (λ i. Among b (bound_by_node i p.source_type q.node q.path)) (body_kind q w) k.declares.binds)
+      ]
+
   -- ---- what a declaration binds
 
   record IsOf (d : Declaration) : Type 0 where
@@ -185,7 +230,7 @@ module _ (p : Tree) (h : first_fault p ≡ None) (e : is_ecmascript p ≡ true) 
 
   -- ---- the scope of an opener, as its header ends
 
-  module _ (s : OpenScope) (opened : IsOpened (openers (steps p)) s) (awaited : WillAwait s.number [] (steps p)) where
+  module _ (s : OpenScope) (opened : IsOpened (openers (steps p)) s) (awaited : WillAwait s.number [] (steps p)) (whole : (b : Bound) → IsTakenBy p b s.number → ⊥) where
     abbrev last : State
     last = run start (until_end_of s.number es)
 
@@ -262,12 +307,9 @@ module _ (p : Tree) (h : first_fault p ≡ None) (e : is_ecmascript p ≡ true) 
           outside = outside_of w.made.declaration tells (before_cut s.number events_cut w.made.declaration before number);
         }
       where
-        no_number : None ≡ Some s.number → ⊥
-        no_number w = absurd cc
-
         now : (d : Declaration) (w : IsOf d) → IsNowIn (table_of p) x d s.number → d.route.target.number ≡ s.number
         now d w (inl q) = q
-        now d w (inr q) = absurd (no_number (sym (is_declared p h e numbered x none plain w.bind w.any).bodiless ∙ sym (ap (λ z. z.route.target.body) w.is_it) ∙ q.0))
+        now d w (inr q) = absurd (whole w.bind (taken_by p h e numbered x none plain w.bind w.any s.number (ap (λ z. z.route.target.body) (sym w.is_it) ∙ q.0)))
 
         until_made : (m : Made) → Among m last.made → Among m final.made
         until_made m a = until_stays m start es s.number a
@@ -289,6 +331,13 @@ module _ (p : Tree) (h : first_fault p ≡ None) (e : is_ecmascript p ≡ true) 
         same_name : (z : Name) → z ≡ x → bytes_eq z x ≡ true
         same_name z i = elim (name_tells z x) [ inl j ↦ j.0 | inr j ↦ absurd (j.1 i) ]
 
+    no_clause : (d : Environment) → is_parameters d ≡ true → is_made_for environment.Catch d ≡ false
+    no_clause d v = elim (cases_Bool (is_made_for environment.Catch d)) [
+      | inr q ↦ q
+      | inl q ↦ (let caught : d.kind ≡ environment.Catch = environment_kind_is d.kind environment.Catch q in
+          absurd (never (sym v ∙ ap (λ z. same_environment_kind z environment.Parameters || same_environment_kind z environment.ArrowParameters) caught)))
+    ]
+
     -- where the parameters have an expression and bind it, the header sees what the scope binds in the end
     pub answers_too : (b : Bound) (k : Known b) → b.name ≡ x → s.opener ≡ b.environment.maker → is_parameters b.environment ≡ true → ((f : Node) → node_at p b.environment.maker ≡ Some f → has_parameter_expressions f ≡ true) → get last.bindings s.number x ≡ get final.bindings s.number x
     answers_too b k n q parameters expressions =
@@ -298,10 +347,10 @@ module _ (p : Tree) (h : first_fault p ≡ None) (e : is_ecmascript p ≡ true) 
         let number : d.route.target.number ≡ s.number = one_scope p numbered d.route.target s k.declares.opened opened (k.declares.maker ∙ sym q) in
         let header : d.route.target.in_header ≡ true = (side_of b n k).inside parameters expressions in
         let there : Among m last.made = made_before m made (counts d y number (rw header refl) k.declares.named) in
-        let here : get last.bindings s.number x ≡ Some y = at_target d y (bodiless p h e numbered x none plain b k) number (shared.2.declared m there k.declares.named k.declares.visible) in
+        let here : get last.bindings s.number x ≡ Some y = at_target d y (bodiless p h e numbered x none plain b k (no_clause b.environment parameters)) number (shared.2.declared m there k.declares.named k.declares.visible) in
         let symbol : symbol_at (analysis_of p) b.identifier ≡ Some y = symbol_is_at m made b.identifier k.declares.identifier in
         let same : y ≡ symbol_of p h e numbered x none clear plain b k = some_is y (symbol_of p h e numbered x none clear plain b k) (sym symbol ∙ has_symbol p h e numbered x none clear plain b k) in
-        here ∙ ap Some same ∙ sym (answers p h e numbered x none clear plain b k s opened q)
+        here ∙ ap Some same ∙ sym (answers p h e numbered x none clear plain b k (no_clause b.environment parameters) s opened q)
 
     -- the header sees a function's own name, where the parameters don't bind it
     pub own_answers : (b : Bound) (k : OwnBound p h x b) → s.opener ≡ k.place.node.node_id → k.place.node.kind ≡ kind.Function → ((c : Bound) → Among c ws → c.name ≡ x → is_bound_as bound.OwnName c ≡ false → c.environment.maker ≡ s.opener → is_made_for environment.Body c.environment ≡ false → ⊥) → (y : ℕ) × (get last.bindings s.number x ≡ Some y) × (symbol_at (analysis_of p) b.identifier ≡ Some y)
@@ -327,6 +376,39 @@ module _ (p : Tree) (h : first_fault p ≡ None) (e : is_ecmascript p ≡ true) 
             let identifier : w.made.declaration.naming.identifier ≡ w.tells.bind.identifier = ap identifier_of i ∙ (is_declared p h e numbered x none plain w.tells.bind (inr v)).identifier in
             let same : w.tells.bind.identifier ≡ b.identifier = one_name p h e numbered x w.tells.bind b v k (sym (own_maker p h x w.tells.bind v) ∙ w.maker ∙ q) f in
             symbol_is_at w.made w.among b.identifier (identifier ∙ same) ∙ ap Some w.symbol
+
+    -- ---- a clause's
+
+    -- something is bound where a declaration counts
+    some_bound : (st : State) (o : Option ℕ) (ms : List Made) (m : Made) → seen_as st o ≡ bound_by_all ms → Among m ms → (y : ℕ) × (o ≡ Some y)
+    some_bound st (Some y) ms m q a = (y, refl)
+    some_bound st None [] m q a = absurd a
+    some_bound st None (n ∷ ms) m q a = absurd (never_none ms (seen_alone n) (sym q))
+      where
+        never_none : (ns : List Made) (t : Seen) → fold with_declaration (Some t) ns ≡ None → ⊥
+        never_none [] t r = absurd cc
+        never_none (n ∷ ns) t r = never_none ns (cond (t.symbol == n.symbol) (record t { flags = union t.flags n.declaration.naming.flags }) (seen_alone n)) r
+
+    -- the header of a clause sees the symbol of what the clause binds
+    pub caught_answers : (b : Bound) (k : Known b) → b.name ≡ x → s.opener ≡ b.environment.maker → k.declares.declaration.route.target.in_header ≡ true → ((c : Bound) → OwnBound p h x c → c.environment.maker ≡ s.opener → ⊥) → (y : ℕ) × (get last.bindings s.number x ≡ Some y) × (symbol_at (analysis_of p) b.identifier ≡ Some y)
+    caught_answers b k n q header no_own =
+        let d : Declaration = k.declares.declaration in
+        let (r, made) = is_made d start es k.declares.among in
+        let m : Made = record { declaration = d; symbol = r } in
+        let number : d.route.target.number ≡ s.number = one_scope p numbered d.route.target s k.declares.opened opened (k.declares.maker ∙ sym q) in
+        let counted : is_before_body s.number x m ≡ true = counts d r number (rw header refl) k.declares.named in
+        let there : Among m (filter (is_before_body s.number x) last.made) = among_filter (is_before_body s.number x) last.made m (made_before m made counted) counted in
+        let (y, here) = some_bound last (get last.bindings s.number x) (filter (is_before_body s.number x) last.made) m (cut.header.bound x) there in
+        let w : IsSeen y = seen y here in
+        (y, here, by w w.tells.any w.tells.is_it)
+      where
+        by : {y : ℕ} (w : IsSeen y) (v : Any w.tells.bind) → w.made.declaration ≡ (is_declared p h e numbered x none plain w.tells.bind v).declaration → symbol_at (analysis_of p) b.identifier ≡ Some y
+        by w (inr v) j = absurd (no_own w.tells.bind v w.maker)
+        by w (inl v) j =
+            let identifier : w.made.declaration.naming.identifier ≡ w.tells.bind.identifier = ap identifier_of j ∙ (is_declared p h e numbered x none plain w.tells.bind (inl v)).identifier in
+            let both : HaveOneSymbol p b w.tells.bind = one_symbol p h e numbered x (share_symbols p h e x clear) b w.tells.bind k.placed.by_node v.placed.by_node n w.tells.named (sym q ∙ sym w.maker) in
+            let same : both.symbol ≡ w.made.symbol = some_is both.symbol w.made.symbol (sym both.second ∙ symbol_is_at w.made w.among w.tells.bind.identifier identifier) in
+            both.first ∙ ap Some (same ∙ w.symbol)
 
   -- a header that holds a place
   pub awaits : (q : Place) (s : OpenScope) → Among (entering q) (steps p) → Among s q.chain → is kind.BindingIdentifier q.node ≡ false → s.in_header ≡ true → WillAwait s.number [] (steps p)

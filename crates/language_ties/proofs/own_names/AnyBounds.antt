@@ -45,7 +45,7 @@ module _ (p : Tree) (h : first_fault p ≡ None) (e : is_ecmascript p ≡ true) 
     pub identifier : declaration.naming.identifier ≡ b.identifier
     pub opened : IsOpened (openers (steps p)) declaration.route.target
     pub maker : declaration.route.target.opener ≡ b.environment.maker
-    pub bodiless : declaration.route.target.body ≡ None
+    pub bodiless : is_made_for environment.Catch b.environment ≡ false → declaration.route.target.body ≡ None
 
   pub is_declared : (b : Bound) → AnyBound b → IsDeclared b
   is_declared b (inl k) = record { declaration = k.declares.declaration; among = k.declares.among; identifier = k.declares.identifier; opened = k.declares.opened; maker = k.declares.maker; bodiless = bodiless p h e numbered x none plain b k }
@@ -55,7 +55,7 @@ module _ (p : Tree) (h : first_fault p ≡ None) (e : is_ecmascript p ≡ true) 
     identifier = o.identifier;
     opened = subst (IsOpened (openers (steps p))) (sym o.target) o.opened;
     maker = ap (λ s. s.opener) o.target ∙ o.opener ∙ sym (own_maker p h x b o);
-    bodiless = ap (λ s. s.body) o.target ∙ o.bodiless;
+    bodiless = λ w. ap (λ s. s.body) o.target ∙ o.bodiless;
   }
 
   pub declared_known : (b : Bound) (k : KnownBound p h e numbered x none plain b) → (is_declared b (inl k)).declaration ≡ k.declares.declaration

@@ -50,7 +50,7 @@ none_in r q (c ∷ cs) h e =
     ∙ none_in r q cs (and_second (same_role c.0 q) _ h) e
 
 -- parts of other roles
-none_of_parts : (r : Role) (ps : List Part) (cs : List (Role × Node)) → list_all (λ p. not (same_role p.role r)) ps ≡ true → fit ps cs ≡ true → nodes_in r cs ≡ []
+pub none_of_parts : (r : Role) (ps : List Part) (cs : List (Role × Node)) → list_all (λ p. not (same_role p.role r)) ps ≡ true → fit ps cs ≡ true → nodes_in r cs ≡ []
 none_of_parts r [] [] h f = refl
 none_of_parts r [] (c ∷ cs) h f = let w : length (c ∷ cs) ≡ 0 = eqb-true (length (c ∷ cs)) 0 f in absurd (omega arith)
 none_of_parts r (p ∷ ps) cs h f =
@@ -60,7 +60,7 @@ none_of_parts r (p ∷ ps) cs h f =
     let rest : nodes_in r (drop n cs) ≡ [] = none_of_parts r ps (drop n cs) (and_second (not (same_role p.role r)) (list_all (λ q. not (same_role q.role r)) ps) h) (and_second (is_run p (take n cs)) (fit ps (drop n cs)) f) in
     subst (λ xs. nodes_in r xs ≡ []) (take-append-drop n cs) (nodes_append r (take n cs) (drop n cs) ∙ (λ i. own i ++ rest i))
 
-is_at_most : (m n : ℕ) → nat_le m n ≡ true → m ≤ n
+pub is_at_most : (m n : ℕ) → nat_le m n ≡ true → m ≤ n
 is_at_most m n h = elim (leb_tells m n) [ inl k ↦ k.1 | inr k ↦ (let q : false ≡ true = sym k.0 ∙ h in absurd cc) ]
 
 -- one identifier in the role, or none
@@ -76,7 +76,7 @@ names_once r (c ∷ []) rest l a e = by (same_role c.0 r)
     by false = subst (λ ns. AtMostOne (flat_map bound_names ns)) (sym e) tt
 names_once r (c ∷ d ∷ more) rest l a e = let w : length (c ∷ d ∷ more) ≤ 1 = is_at_most (length (c ∷ d ∷ more)) 1 l in absurd (omega arith)
 
-abbrev later_parts : List Part → List Part
+abbrev pub later_parts : List Part → List Part
 later_parts [] = []
 later_parts (p ∷ ps) = ps
 
@@ -94,7 +94,7 @@ function_named cs f =
 some_is : (x y : Node) → Some x ≡ Some y → x ≡ y
 some_is x y h = cc
 
-abbrev Fits : Node → Type 0
+abbrev pub Fits : Node → Type 0
 Fits x = fit (parts x.kind) (trees x.children) ≡ true
 
 fit_in : (place : Place) (k : AstType) (f : Forest) (i : ℕ) (x : Node) → NoneMisshapen (placed_below place k f) → node_in f i ≡ Some x → Fits x
@@ -114,7 +114,7 @@ fit_in place k (tree r k2 span text marks below id after) i x h q =
     go node true j own inner others = subst Fits (some_is node x j) own
     go node false j own inner others = either (node_in below i) (node_in after i) j inner others
 
-fit_at : (p : Tree) → first_fault p ≡ None → (i : ℕ) (x : Node) → node_at p i ≡ Some x → Fits x
+pub fit_at : (p : Tree) → first_fault p ≡ None → (i : ℕ) (x : Node) → node_at p i ≡ Some x → Fits x
 fit_at p h i x q =
     let f : (is_well_formed root_place p.root ≡ true) × NoneMisshapen (placed_below root_place p.root.kind p.root.children) = first_formed (root_place, p.root) (placed_below root_place p.root.kind p.root.children) (none_misshapen p h) in
     go (p.root.node_id == i) q (fit_kept p.root (table_kept root_place p.root f.0)) (fit_in root_place p.root.kind p.root.children i x f.1)

@@ -36,6 +36,7 @@ use Rattle.language_ties.proofs.agree.FamiliarPlaces.{IsFamiliar, FamiliarAt, fa
 use Rattle.language_ties.proofs.agree.KnownBounds.{some_is}
 use Rattle.language_ties.proofs.agree.KnownNodes.{node_at}
 use Rattle.language_ties.proofs.clear.SingleNames.{identifier_of, same_declaration, declared_once}
+use Rattle.language_ties.proofs.caught.CaughtBounds.{made_where, not_taken, no_block}
 use Rattle.language_ties.proofs.own_names.AnyBounds.{AnyBound, any_bound, IsDeclared, is_declared}
 use Rattle.language_ties.proofs.own_names.OwnBounds.{OwnBound, own_maker}
 use Rattle.language_ties.proofs.own_names.OwnIds.{named_once}
@@ -136,9 +137,10 @@ module _ (p : Tree) (h : first_fault p ≡ None) (e : is_ecmascript p ≡ true) 
             let d : IsDeclared p h e numbered x none plain c = is_declared p h e numbered x none plain c v in
             let one : identifier_of w.declaration ≡ identifier_of d.declaration = sym i ∙ sym d.identifier in
             let same : w.declaration ≡ d.declaration = same_declaration w.declaration d.declaration (declarations (events (steps p))) w.among d.among one (declared_once p (identifier_of w.declaration) h numbered) in
-            let home_is : home d.declaration ≡ d.declaration.route.target.number = ap (body_or d.declaration.route.target.number) d.bodiless in
-            let number : d.declaration.route.target.number ≡ s.number = sym home_is ∙ ap home (sym same) ∙ w.stands in
-            sym d.maker ∙ some_is d.declaration.route.target.opener s.opener (sym d.opened ∙ ap (slice_get (openers (steps p))) number ∙ o)
+            elim (made_where p h e numbered x none plain c v s o (ap home (sym same) ∙ w.stands)) [
+              | inl i ↦ i
+              | inr i ↦ absurd (not_taken p numbered k.place k.entered (no_block k.place (ap (λ z. same_kind z kind.BlockStatement) f)) s o q c i)
+            ]
 
         by : (c : Bound) → Among c ws → c.name ≡ x → (v : AnyBound p h e numbered x none plain c) → (y : ℕ) (w : IsDeclaredAt p x s.number y) → c.identifier ≡ w.declaration.naming.identifier → c.identifier ≡ b.identifier
         by c a n (inl v) y w i = absurd (apart c a n v.no_own (opener_of c (inl v) y w i))

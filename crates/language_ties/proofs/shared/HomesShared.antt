@@ -122,7 +122,8 @@ module _ (p : Tree) (h : first_fault p ≡ None) (e : is_ecmascript p ≡ true) 
   shared : Shared table x at_last.0 at_last.1 final
   shared = at_last.2
 
-  none_in_clause : (c b s : ℕ) → slice_get table c ≡ Some (Some b) → get final.bindings c x ≡ Some s → ⊥
+  -- nothing stays in the scope of a clause
+  pub none_in_clause : (c b s : ℕ) → slice_get table c ≡ Some (Some b) → get final.bindings c x ≡ Some s → ⊥
   none_in_clause = none_pending table root (nearest p) x start es (events_in p f) (orderly_events p f) (sound_start table) at_home (λ c b s q g. absurd cc)
 
   within : (c : ℕ) (o : Option ℕ) → slice_get table c ≡ Some o → c < length (scopes (steps p))

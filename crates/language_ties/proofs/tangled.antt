@@ -1,0 +1,5 @@
+-- Names that aren't tangled.
+pub mod NamePlaces
+pub mod PassedClauses
+pub mod Untangled
+pub mod CaughtVariables
