@@ -6,9 +6,7 @@ const { load } = require('../source-to-tree/load.js');
 const { say, tell } = require('../analyse/output.js');
 const { COMMANDS } = require('./commands/index.js');
 const { STATUS } = require('./faults.js');
-
-const STATUSES = `
-Status: 0 nothing found; 1 findings; 2 words that aren't known; 3 something could not be read or run.`;
+const { FOLDED_DESCRIPTION, STATUSES, behind } = require('./help.js');
 
 function tellVersion() {
   say(require('./version.js').versionText());
@@ -32,13 +30,14 @@ function programOf(words = []) {
     .option('--no-color', 'no colours, also in a terminal')
     .showHelpAfterError('(bolgwyr --help tells the words)')
     .configureOutput({ outputError: (text, write) => write(text.replace(/^error: /, 'bolgwyr: ')) })
+    .configureHelp(FOLDED_DESCRIPTION)
     .exitOverride()
-    .addHelpText('after', STATUSES);
+    .addHelpText('after', behind(STATUSES));
   for (const { name, add } of commandsFor(words)) {
     add(program, name);
   }
   for (const command of program.commands) {
-    command.exitOverride().showHelpAfterError(`(bolgwyr ${command.name()} --help tells the words)`).addHelpText('after', STATUSES);
+    command.exitOverride().showHelpAfterError(`(bolgwyr ${command.name()} --help tells the words)`);
   }
   return program;
 }

@@ -4,6 +4,8 @@
 const { programOf } = require('../bolgwyr/main.js');
 const { description, version } = require('../../package.json');
 
+const VERBATIM_WIDTH = 72; // what stands as it is, indented, in a terminal of 80 columns
+
 // A text of the page: no letter of it is a request or an escape.
 const plain = (text) => text.replace(/\\/g, '\\e').replace(/-/g, '\\-').replace(/^([.'])/gm, '\\&$1');
 
@@ -12,7 +14,7 @@ const term = (name, about) => `.TP\n.B ${plain(name)}\n${plain(about)}\n`;
 // What stands in help behind the words, as it stands there.
 function endOf(command) {
   const parts = [];
-  command.configureOutput({ writeOut: (text) => parts.push(text) });
+  command.configureOutput({ writeOut: (text) => parts.push(text), getOutHelpWidth: () => VERBATIM_WIDTH });
   command.outputHelp();
   const help = parts.join('');
   const begin = help.indexOf('\n\n', help.lastIndexOf('display help for command'));

@@ -9,6 +9,11 @@ const WORDS = [
   { name: 'help', words: ['--help'], status: 0, out: /Commands:\n {2}check/, err: '' },
   { name: 'the version', words: ['--version'], status: 0, out: /^bolgwyr \d+\.\d+\.\d+/, err: '' },
   { name: 'help of a command', words: ['check', '--help'], status: 0, out: /Examples:/, err: '' },
+  ...['', 'check', 'rename', 'link', 'mangle', 'lsp', 'tables', 'scopes', 'lint-names', 'report', 'tree', 'prove'].map((command) => ({
+    name: `help within 80 columns: ${command || 'all commands'}`, words: [command, '--help'].filter((word) => word !== ''), status: 0, err: '',
+    out: /^(.{0,80}\n)*Status: 0 (.{0,80}\n)*$/,
+  })),
+  { name: 'help tells each status of a command', words: ['rename', '--help'], status: 0, out: /\nStatus: 0 renamed; 1 refused; / },
   { name: 'no word', words: [], status: 2, out: '' },
   { name: 'an unknown command', words: ['chek'], status: 2, out: '', err: /^bolgwyr: unknown command 'chek'\n/ },
   { name: 'an unknown word', words: ['check', '--colour'], status: 2, out: '', err: /^bolgwyr: unknown option '--colour'\n.*\(bolgwyr check --help tells the words\)\n$/s },

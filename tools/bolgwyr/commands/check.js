@@ -2,21 +2,22 @@
 // bolgwyr check: findings in source files.
 
 const { load } = require('../../source-to-tree/load.js');
+const { STATUSES, behind } = require('../help.js');
 const { addReading } = require('./sources.js');
 
-const EXAMPLES = `
-Examples:
-  bolgwyr check                              all source files below this folder, but for what .gitignore leaves out
-  bolgwyr check src 'test/**/*.js'           a folder, and what a glob finds
-  bolgwyr check --rule no-unused=warn --max-warnings 10
-  bolgwyr check --only no-undeclared --env browser page.js
-  bolgwyr check --format sarif > findings.sarif
-  bolgwyr check --project src/index.js       what these modules reach, and imports that lead nowhere
-  git show :a.ts | bolgwyr check --stdin-name a.ts -
+const EXAMPLES = [
+  ['bolgwyr check', 'all source files below this folder, but for what .gitignore leaves out'],
+  ["bolgwyr check src 'test/**/*.js'", 'a folder, and what a glob finds'],
+  ['bolgwyr check --project src/index.js', 'what these modules reach, and imports that lead nowhere'],
+  ['bolgwyr check --rule no-unused=warn --max-warnings 10'],
+  ['bolgwyr check --only no-undeclared --env browser page.js'],
+  ['bolgwyr check --format sarif > findings.sarif'],
+  ['git show :a.ts | bolgwyr check --stdin-name a.ts -'],
+];
 
-Rules: no-unused, no-undeclared, no-redeclare, early-error, unused-label, and with --project unresolved-import. A
-bolgwyr.json in the folder of a file or around it sets rules, globals, env and ignore; comments such as
-// bolgwyr-ignore-next-line no-unused leave findings out.`;
+const RULES = `Rules: no-unused, no-undeclared, no-redeclare, early-error, unused-label, and with --project unresolved-import. A
+bolgwyr.json in the folder of a file or around it sets rules, globals, env and ignore; a comment such as
+bolgwyr-ignore-next-line no-unused leaves findings out.`;
 
 const gather = (value, values = []) => [...values, value];
 
@@ -37,7 +38,7 @@ function add(program, name) {
     .option('--project <entry...>', 'also imports that lead nowhere, in what these files or folders reach')
     .option('--config <file>', 'this file in place of each bolgwyr.json');
   addReading(command)
-    .addHelpText('after', EXAMPLES)
+    .addHelpText('after', behind(EXAMPLES, RULES, STATUSES))
     .action((files, options, command) => require('../../check/command.js').run(files, command.optsWithGlobals()));
 }
 

@@ -1,15 +1,13 @@
 'use strict';
 // bolgwyr lint-names: what the proved lint of names says, with lines and columns, and nothing left out.
 
+const { STATUSES, behind } = require('../help.js');
 const { addReading, nameOf } = require('./sources.js');
 
-const EXAMPLES = `
-Each line is "unused" or "undeclared" of the proved lint of names: nothing that it says is left out, as check leaves out
-parameters before used ones, or names of an environment.
+const LINES = `Each line is "unused" or "undeclared" of the proved lint of names: nothing that it says is left out, as check leaves out
+parameters before used ones, or names of an environment.`;
 
-Examples:
-  bolgwyr lint-names sum.mjs
-  bolgwyr lint-names --known console,process src`;
+const EXAMPLES = [['bolgwyr lint-names sum.mjs'], ['bolgwyr lint-names --known console,process src']];
 
 const gather = (value, values = []) => [...values, ...value.split(',').filter((name) => name !== '')];
 
@@ -19,7 +17,7 @@ function add(program, name) {
     .argument('<files...>', 'files, folders and globs; - is standard input')
     .option('--known <names>', 'names that are known, with commas between them; may be given again', gather);
   addReading(command)
-    .addHelpText('after', EXAMPLES)
+    .addHelpText('after', behind(LINES, EXAMPLES, STATUSES))
     .action((words, options, self) => {
       const all = { known: [], ...self.optsWithGlobals() };
       const files = require('../../check/sources.js').sourcesOf(words).map(({ file }) => ({ file, name: nameOf(file, all) }));

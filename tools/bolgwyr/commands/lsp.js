@@ -2,12 +2,13 @@
 // bolgwyr lsp: a language server for editors.
 
 const { load } = require('../../source-to-tree/load.js');
+const { behind } = require('../help.js');
 
-const HELP = `
-An editor starts it, and talks with it by the Language Server Protocol: diagnostics as bolgwyr check tells them, definition,
-references, highlights, rename, outline, hover and code actions. docs/editors.md tells how editors are set up.
+const EDITORS = `An editor starts it, and talks with it by the Language Server Protocol: diagnostics as bolgwyr check tells them,
+definition, references, highlights, rename, outline, hover and code actions. docs/editors.md tells how editors are set up.`;
 
-It ends with status 0 after shutdown and exit, and with 1 after an exit or an end of the input without shutdown.`;
+const LSP_STATUSES = `Status: 0 after shutdown and exit; 1 after an exit or an end of the input without shutdown; 2 words that
+aren't known.`;
 
 function add(program, name) {
   const { Option } = load('commander');
@@ -17,7 +18,7 @@ function add(program, name) {
     .option('--log', 'tell on standard error what is asked and how long it takes')
     .addOption(new Option('--clientProcessId <id>', 'what some clients add').hideHelp())
     .allowExcessArguments(false)
-    .addHelpText('after', HELP)
+    .addHelpText('after', behind(EDITORS, LSP_STATUSES))
     .action(async (options) => {
       process.exit(await require('../../lsp/run.js').run(options));
     });

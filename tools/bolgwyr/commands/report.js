@@ -2,16 +2,17 @@
 // bolgwyr report: what the report program says of a source file, as it says it.
 
 const { STATUS } = require('../faults.js');
+const { STATUSES, behind } = require('../help.js');
 const { writeOf } = require('./one-file.js');
 const { addReading, addTables, reportWords } = require('./sources.js');
 
-const EXAMPLES = `
-Examples:
-  bolgwyr report sum.mjs
-  bolgwyr report --check --stats lib.ts
-  bolgwyr report --tree - < samples/function.json
+const EXAMPLES = [
+  ['bolgwyr report sum.mjs'],
+  ['bolgwyr report --check --stats lib.ts'],
+  ['bolgwyr report --tree - < samples/function.json'],
+];
 
-docs/programs.md says what each line tells.`;
+const LINES = 'docs/programs.md says what each line tells.';
 
 function reportBytes(file, name, options) {
   const { analyseFile } = require('../../analyse/analysis.js');
@@ -25,7 +26,7 @@ function add(program, name) {
     .description("Write the report program's own text on a source file")
     .argument('<file>', 'the source file; - is standard input');
   addReading(addTables(command))
-    .addHelpText('after', EXAMPLES)
+    .addHelpText('after', behind(EXAMPLES, LINES, STATUSES))
     .action((file, options) => writeOf(file, options, (named) => reportBytes(file, named, options)));
 }
 

@@ -4,15 +4,18 @@
 const fs = require('fs');
 const { load } = require('../../source-to-tree/load.js');
 const { RunFault, STATUS, UsageFault } = require('../faults.js');
+const { behind } = require('../help.js');
 const { addReading, nameOf } = require('./sources.js');
 
-const EXAMPLES = `
-Examples:
-  bolgwyr scopes sum.mjs -o page.html        one page that needs nothing else
-  bolgwyr scopes --project src/index.js > page.html
-                                             all modules that this one reaches, each in a tab
+const EXAMPLES = [
+  ['bolgwyr scopes sum.mjs -o page.html', 'one page that needs nothing else'],
+  ['bolgwyr scopes --project src/index.js > page.html', 'all modules that this one reaches, each in a tab'],
+];
 
-A part behind # selects in the page: page.html#ref-3, #symbol-2, #scope-1, #free-0.`;
+const PLACES = 'A part behind # selects in the page: page.html#ref-3, #symbol-2, #scope-1, #free-0.';
+
+const PAGE_STATUSES = `Status: 0 the page is written; 1 no parser reads the file; 2 words that aren't known; 3 something could not be
+read, run or written.`;
 
 function pageOf(file, options) {
   const { analysedFile } = require('../../analyse/page/analysed-file.js');
@@ -68,7 +71,7 @@ function add(program, name) {
     .addOption(new Option('--check', 'early errors, too').hideHelp()) // they are findings, which the page has always
     .option('--tree', 'the file holds a tree already, as JSON');
   addReading(command)
-    .addHelpText('after', EXAMPLES)
+    .addHelpText('after', behind(EXAMPLES, PLACES, PAGE_STATUSES))
     .action((file, options, self) => run(file, self.optsWithGlobals()));
 }
 

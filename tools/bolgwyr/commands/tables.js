@@ -2,17 +2,18 @@
 // bolgwyr tables: the tables of source files, as they are proved.
 
 const { UsageFault } = require('../faults.js');
+const { STATUSES, behind } = require('../help.js');
 const { addReading, addTables, nameOf, reportWords } = require('./sources.js');
 
-const EXAMPLES = `
-One file gives its report, several a line each and a sum. docs/tables.md has the objects of --json.
+const FORMS_OF_FILES = 'One file gives its report, several a line each and a sum. docs/tables.md has the objects of --json.';
 
-Examples:
-  bolgwyr tables sum.mjs                     the report, line by line
-  bolgwyr tables --json src > tables.jsonl   one object a file, one a line
-  bolgwyr tables --text --check lib.ts       diagnostics with their lines of source, and unused labels
-  bolgwyr tables --out tables src            a file of tables for each, with GNU parallel; --resume goes on
-  bolgwyr tables --out tables --machines machines --transfer src`;
+const EXAMPLES = [
+  ['bolgwyr tables sum.mjs', 'the report, line by line'],
+  ['bolgwyr tables --json src > tables.jsonl', 'one object a file, one a line'],
+  ['bolgwyr tables --text --check lib.ts', 'diagnostics with their lines of source, and unused labels'],
+  ['bolgwyr tables --out tables src', 'a file of tables for each, with GNU parallel; --resume goes on'],
+  ['bolgwyr tables --out tables --machines machines --transfer src'],
+];
 
 const FORMS = ['json', 'text', 'report'];
 
@@ -89,7 +90,7 @@ function add(program, name) {
     .option('--report', 'the report program\'s own lines')
     .option('--time', 'how long reading, parser, conversion to a tree and analysis took, on standard error');
   addFolder(addReading(addTables(command)))
-    .addHelpText('after', EXAMPLES)
+    .addHelpText('after', behind(FORMS_OF_FILES, EXAMPLES, STATUSES))
     .action((words, options, self) => run(words, self.optsWithGlobals()));
 }
 

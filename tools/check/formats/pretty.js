@@ -52,7 +52,7 @@ function resultLines(paint, result) {
 function format(results, { colour }) {
   const paint = paints(colour);
   const sum = sumOf(results);
-  const mark = sum.errors > 0 ? paint.error : sum.warnings > 0 ? paint.warning : paint.good;
+  const mark = sum.errors > 0 ? paint.error : sum.warnings + sum.failed > 0 ? paint.warning : paint.good;
   const lines = [...results.flatMap((result) => resultLines(paint, result)), mark(sumLine(sum))];
   return lines.map((line) => `${line}\n`).join('');
 }
