@@ -18,3 +18,4 @@ pub mod SeenClasses
 pub mod SeenPlaces
 pub mod ToldPrograms
 pub mod SwappedTold
+pub mod Examples
