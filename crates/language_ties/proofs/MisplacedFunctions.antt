@@ -14,7 +14,7 @@ use Rattle.language_ties.specs.Agreement.{differing}
 use Rattle.language_ties.specs.EarlyErrors.{has_clash}
 use Rattle.language_ties.specs.Meaning.{meanings, unbound, bound}
 use Rattle.language_ties.specs.declared.environment_kind.EnvironmentKind.TheVariants.{Global, IfBody}
-use Rattle.language_ties.proofs.ProgramTrees.{marked, node, program}
+use Rattle.tangle_model.proofs.ProgramTrees.{marked, node, program}
 
 -- `var f; for (;;) function f() {} f`: a function as the body of a loop (an early error, ECMA-262, 14.7)
 abbrev pub under_loop : Tree

@@ -2,8 +2,6 @@ pub mod Sheds
 pub mod GoingBack
 pub mod Looks
 pub mod FlagsHeld
-pub mod AlikeRows
-pub mod AlikeDeclarations
 pub mod Twins
 pub mod SameConflicts
 pub mod VarRows

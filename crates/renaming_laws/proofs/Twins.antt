@@ -16,10 +16,9 @@ use Rattle.semantic_model.specs.Naming.{Naming}
 use Rattle.semantic_model.specs.Place.{Place, OpenScope, innermost, outside}
 use Rattle.semantic_model.specs.Step.{Step, entering, opening, header_ending, closing, leaving}
 use Rattle.semantic_model.proofs.form.Clauses.{kind_is}
-use Rattle.semantic_model.proofs.swapped.AlikeBinder.{renamed_declaration}
+use Rattle.semantic_model.proofs.swapped.AlikeBinder.{renamed_declaration, ren, parent_kind}
 use Rattle.semantic_model.proofs.swapped.AlikeSteps.{SamePlace, AlikeStep, AlikeSteps}
-use Rattle.renaming_laws.proofs.AlikeRows.{ren, parent_kind}
-use Rattle.renaming_laws.proofs.AlikeDeclarations.{namespace_same, facts, entering_same, opening_same}
+use Rattle.semantic_model.proofs.swapped.AlikeDeclares.{namespace_same, facts, entering_same, opening_same}
 
 -- ---- declarations and events that differ in names alone
 

@@ -6,11 +6,11 @@ ghost use Rattle.semantic_tree.specs.Renamed.{swap};
 ghost use Rattle.semantic_tree.specs.Tree.{Tree, IsNumbered};
 ghost use Rattle.semantic_model.specs.NamespaceStates.{namespace_states};
 ghost use Rattle.semantic_model.specs.Step.{steps};
-ghost use Rattle.semantic_model.specs.TablesOf.{tables_of};
+ghost use Rattle.semantic_model.specs.TablesOf.{tables_of, made_of};
 ghost use Rattle.program_laws.specs.SameAnalysis.{conflicts_of};
 ghost use Rattle.rename_model.specs.Alone.{BelongsTo, IsUnused};
 ghost use Rattle.rename_model.specs.Refusal.{rename};
-ghost use Rattle.renaming_laws.specs.InBlocks.{made_in, ShareFlags};
+ghost use Rattle.renaming_laws.specs.InBlocks.{ShareFlags};
 ghost use Rattle.swapped_checks.specs.SwappedPrograms.{holds_within};
 ghost use Rattle.renaming_laws.specs.LookedUp.{exports_neither};
 ghost use Rattle.renaming_laws.specs.KeptDeclarations.{KeepsDeclarations};
@@ -24,17 +24,17 @@ pub fn a_renaming_keeps_conflicts()
     ensures kept { (p q : Tree) (s : ℕ) (y : Symbol) (new : Name) → first_fault p ≡ None
         → IsNumbered p.root → slice_get (tables_of p).symbols s ≡ Some y
         → rename p s new ≡ Ok q → namespace_states (steps q) ≡ namespace_states (steps p)
-        → ShareFlags (made_in p) → ShareFlags (made_in q)
+        → ShareFlags (made_of p) → ShareFlags (made_of q)
         → AreRenamedConflicts p s new (conflicts_of p) (conflicts_of q) }
     ensures without_namespaces { (p q : Tree) (s : ℕ) (y : Symbol) (new : Name)
         → first_fault p ≡ None → IsNumbered p.root → slice_get (tables_of p).symbols s ≡ Some y
-        → rename p s new ≡ Ok q → namespace_states (steps p) ≡ [] → ShareFlags (made_in p)
-        → ShareFlags (made_in q)
+        → rename p s new ≡ Ok q → namespace_states (steps p) ≡ [] → ShareFlags (made_of p)
+        → ShareFlags (made_of q)
         → AreRenamedConflicts p s new (conflicts_of p) (conflicts_of q) }
     ensures unexported { (p q : Tree) (s : ℕ) (y : Symbol) (new : Name) → first_fault p ≡ None
         → IsNumbered p.root → slice_get (tables_of p).symbols s ≡ Some y
         → rename p s new ≡ Ok q → holds_within (exports_neither y.name new) p.root ≡ true
-        → ShareFlags (made_in p) → ShareFlags (made_in q)
+        → ShareFlags (made_of p) → ShareFlags (made_of q)
         → AreRenamedConflicts p s new (conflicts_of p) (conflicts_of q) }
 {}
 
@@ -45,7 +45,7 @@ pub fn a_renaming_keeps_declarations()
     ensures { (p q : Tree) (s : ℕ) (y : Symbol) (new : Name) → first_fault p ≡ None
         → IsNumbered p.root → slice_get (tables_of p).symbols s ≡ Some y
         → rename p s new ≡ Ok q → namespace_states (steps q) ≡ namespace_states (steps p)
-        → ShareFlags (made_in p) → ShareFlags (made_in q)
+        → ShareFlags (made_of p) → ShareFlags (made_of q)
         → KeepsDeclarations p q s new }
 {}
 

@@ -9,7 +9,7 @@ use Rattle.semantic_kinds.specs.declared.role.Role.{Role}
 use Rattle.semantic_kinds.specs.declared.role.Role.TheVariants as role
 use Rattle.semantic_tree.specs.Forest.{Forest}
 use Rattle.semantic_tree.specs.Tree.{Tree}
-use Rattle.language_ties.proofs.ProgramTrees.{marked, node, program}
+use Rattle.tangle_model.proofs.ProgramTrees.{marked, node, program}
 
 -- a name that is bound, and one that is read
 abbrev binds : Role → List ℕ → Forest
