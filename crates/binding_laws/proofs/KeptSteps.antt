@@ -38,7 +38,7 @@ use Rattle.semantic_model.proofs.lists.SymbolLaws.{get-last, get-push}
 use Rattle.semantic_model.proofs.once.ListedUnder.{name_tells}
 use Rattle.semantic_model.proofs.once.UseLists.{IsBelow}
 use Rattle.semantic_model.proofs.steps.Compose.{run-append}
-use Rattle.walk_model.specs.Walks.{numbers}
+use Rattle.semantic_model.specs.TablesOf.{numbers}
 use Rattle.walk_model.proofs.declares.Simulated.{program_nested, root_declares_none, solid}
 use Rattle.walk_model.proofs.headers.Frozen.{IsWithin, below, within_step}
 use Rattle.walk_model.proofs.places.Grounds.{IsGrounded, AllGrounded, all_grounded}

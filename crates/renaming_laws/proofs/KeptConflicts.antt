@@ -68,7 +68,7 @@ use Rattle.renaming_laws.proofs.DeclaredPairs.{pairs, made_pair, written_pairs, 
 use Rattle.renaming_laws.proofs.GoingBack.{root_marks}
 use Rattle.renaming_laws.proofs.GoodRows.{TellsChosen, KnownPlace, declared_good, inside_good}
 use Rattle.renaming_laws.proofs.SameConflicts.{Twinned, AllTwinned, AreTwins, same_conflicts}
-use Rattle.renaming_laws.proofs.SameSymbols.{number_there, symbol_there, made_of_node, same_symbols}
+use Rattle.renaming_laws.proofs.SameSymbols.{number_there, symbol_there, same_symbols}
 use Rattle.renaming_laws.proofs.Signed.{unsigned, given, signed, signs_taken, names_given, Good, each_good, member_inside, member_unchosen, IsKept, labels_kept}
 use Rattle.renaming_laws.proofs.Twins.{nameless, TwinSteps, twin_steps, TwinEvents, events_twins, no_states}
 use Rattle.renaming_laws.proofs.VarRows.{program_rows}

@@ -14,9 +14,10 @@ use Rattle.semantic_model.specs.Naming.{Naming}
 use Rattle.semantic_model.specs.NodeTable.{Belongs, belonging, number_of}
 use Rattle.semantic_model.specs.Step.{steps}
 use Rattle.semantic_model.specs.TablesOf.{made_of}
-use Rattle.semantic_model.proofs.fits.NothingInvented.{made_declared, belongs_made}
+use Rattle.semantic_model.proofs.fits.NothingInvented.{belongs_made}
 use Rattle.walk_model.proofs.once.SymbolsOnce.{symbols_times}
-use Rattle.program_laws.proofs.DeclaredNodes.{IsOf, of_name, of_member, declaration_of}
+use Rattle.program_laws.proofs.DeclaredNodes.{IsOf, of_name, of_member}
+use Rattle.program_laws.proofs.NodeNames.{made_of_node}
 use Rattle.program_laws.proofs.TreeNodes.{nodes_from, ids_between}
 use Rattle.rename_model.specs.Same.{Same}
 use Rattle.rename_model.proofs.NamedNodes.{some_is}
@@ -77,10 +78,7 @@ pub id_within : (p : Tree) → IsNumbered p.root → (x : Node) → Among x (nod
 id_within p h x (inl e) = let first : 0 ≡ p.root.node_id = ap (λ n. n.node_id) h in let here : p.root.node_id ≡ x.node_id = ap (λ n. n.node_id) e in omega (arith, first, here)
 id_within p h x (inr b) = let (low, high) = ids_between 1 p.root.children x (ap (λ n. n.children) h) b in omega (arith, high)
 
--- what is made is of a node, and that has the symbol
-pub made_of_node : (p : Tree) (m : Made) → Among m (made_of p) → IsOf (nodes_from p.root) m.declaration
-made_of_node p m a = elim (made_declared m start (events (steps p)) a) [ inl k ↦ absurd k | inr k ↦ declaration_of p m.declaration k ]
-
+-- the node of what is made has the symbol
 pub symbol_there : (p : Tree) → first_fault p ≡ None → IsNumbered p.root → (m : Made) → Among m (made_of p) → symbol_at (analysis_of p) m.declaration.naming.identifier ≡ Some m.symbol
 symbol_there p h n m a =
     number_there (map belonging (made_of p)) m.declaration.naming.identifier m.symbol (symbols_times m.declaration.naming.identifier p h n) (belongs_made m (made_of p) a)

@@ -34,8 +34,7 @@ use Rattle.semantic_model.proofs.form.Clauses.{kind_is}
 use Rattle.semantic_model.proofs.form.Shape.{has_form}
 use Rattle.semantic_model.proofs.lists.Growth.{start_is_sound}
 use Rattle.semantic_model.proofs.once.ListedUnder.{name_tells}
-use Rattle.semantic_syntax.specs.Members.{contains}
-use Rattle.walk_model.proofs.headers.Headed.{awaiting_past, AllMatch}
+use Rattle.walk_model.proofs.headers.Headed.{awaiting_past, match_among}
 use Rattle.tangle_model.specs.Surroundings.{in_with_under}
 use Rattle.binding_laws.specs.SeenDeclarations.{is_own_name, stands_before_body, is_before_body, seen_alone, with_declaration, bound_by_all}
 use Rattle.binding_laws.proofs.CutEvents.{IsBefore, Cut, no_end, ended, not_yet}
@@ -114,15 +113,10 @@ before_cut c (not_yet e es i b cut) d a q = go e b (subst (λ t. Among d (declar
 
 -- ---- headers that are still to end
 
-match_at : (aw : List ℕ) (chain : List OpenScope) (s : OpenScope) → AllMatch aw chain → Among s chain → s.in_header ≡ contains aw s.number
-match_at aw [] s h a = absurd a
-match_at aw (t ∷ chain) s h (inl e) = subst (λ (o : OpenScope). o.in_header ≡ contains aw o.number) e h.0
-match_at aw (t ∷ chain) s h (inr a) = match_at aw chain s h.1 a
-
 -- a header that holds a place is awaited where that stands
 place_awaits : (q : Place) (s : OpenScope) (aw : List ℕ) (ss : List Step) → AreMatched aw ss → Among (entering q) ss → Among s q.chain → is kind.BindingIdentifier q.node ≡ false → s.in_header ≡ true → WillAwait s.number aw ss
 place_awaits q s aw [] m a b n i = absurd a
-place_awaits q s aw (step ∷ ss) m (inl e) b n i = inl (sym (match_at aw q.chain s (subst (IsMatchedStep aw) e m.0 n) b) ∙ i)
+place_awaits q s aw (step ∷ ss) m (inl e) b n i = inl (sym (match_among aw q.chain s (subst (IsMatchedStep aw) e m.0 n) b) ∙ i)
 place_awaits q s aw (step ∷ ss) m (inr a) b n i = inr (place_awaits q s (awaiting_past aw step) ss m.1 a b n i)
 
 -- ---- a declaration and what binds its name
