@@ -1,25 +1,23 @@
 //! The program in which symbols have new names.
 
-ghost use Rattle.std.specs.Prelude.{◌≡◌, ◌<◌, ◌^◌, None, IfOk, OnOk, option_map};
+ghost use Rattle.std.specs.Prelude.{◌≡◌, IfOk, OnOk};
 ghost use Rattle.std.specs.Str.{chars};
 ghost use Rattle.semantic_kinds.specs.declared.mark.Mark.TheVariants.{Shorthand as shorthand};
-ghost use Rattle.semantic_tree.specs.Faults.{first_fault};
 ghost use Rattle.semantic_tree.specs.Forest.{join};
-ghost use Rattle.semantic_tree.specs.Tree.{numbered_tree};
-ghost use Rattle.program_laws.specs.ReadMarks.{without_mark, without_where};
+ghost use Rattle.program_laws.specs.ReadMarks.{without_where};
 ghost use Rattle.rename_model.specs.WithName.{is_named_value, sheds, AreIdentifiers};
 ghost use Rattle.mangle_model.specs.Assignment.{assignment_of, name_or};
 ghost use Rattle.mangle_model.specs.Renamed.{given};
 ghost use Rattle.mangle_model.specs.WithNames.{is_given, with_names, with_names_in, AreSomeNames};
-ghost use Rattle.renamer.specs.Renaming.{IsKnown, AreKnown, with_kept};
+ghost use Rattle.renamer.specs.Renaming.{IsKnown, AreKnown};
 ghost use Rattle.renamer.specs.Told.{told_by};
 ghost use Rattle.mangler.specs.Copies.{alone};
 
 use crate::giving::{given, is_given};
 use mangle_names::NewNames;
-use renamer::Analysed;
-use semantic_syntax::{SourceType, Text};
-use semantic_tree::{AstKind, AstType, Comment, Mark, Marks, Node, Program, Role};
+use renamer::{Analysed, program_of, without_shorthand};
+use semantic_syntax::Text;
+use semantic_tree::{AstKind, AstType, Marks, Node, Program, Role};
 use std::alloc::{AllocError, Global};
 
 /// Whether a value is given a name, or its left is.
@@ -53,30 +51,6 @@ fn sheds(analysed: &Analysed<'_>, names: &NewNames, node: AstKind<'_>) -> bool
         }
     }
     false
-}
-
-/// Some of the marks, and one more if it is kept.
-fn with_kept(marks: Marks, kept: Marks, mark: Mark) -> Marks
-    ensures { result ≡ with_kept marks kept mark }
-{
-    if mark != Mark::Shorthand && marks.has(mark) {
-        kept.with(mark)
-    } else {
-        kept
-    }
-}
-
-/// The marks but `shorthand`.
-fn without_shorthand(marks: Marks) -> Marks
-    requires { marks.bits < 2 ^ 30 }
-    ensures { result ≡ without_mark marks shorthand }
-{
-    let mut kept = Marks::empty();
-    for mark in Mark::all() {
-        let next = with_kept(marks, kept, *mark);
-        kept = next;
-    }
-    kept
 }
 
 /// The marks that the node has then.
@@ -168,35 +142,6 @@ fn renamed_root(
     let mut made = Node::new(alloc, root.kind, root.span, root.text.as_str(), root.marks)?;
     push_renamed(alloc, analysed, names, root, &mut made)?;
     Ok(made)
-}
-
-/// The program of a tree that has no fault once it is numbered.
-fn program_of(
-    alloc: Global,
-    source: Text,
-    source_type: SourceType,
-    comments: Vec<Comment>,
-    root: Node,
-) -> Program
-    requires { first_fault (numbered_tree
-        (record {
-          source = source;
-          source_type = source_type;
-          comments = comments.items;
-          root = root;
-        })) ≡ None }
-    ensures { result ≡ numbered_tree
-        (record {
-          source = source;
-          source_type = source_type;
-          comments = comments.items;
-          root = root;
-        }) }
-{
-    match Program::new(alloc, source, source_type, comments, root) {
-        Ok(program) => program,
-        Err(_) => unreachable!(),
-    }
 }
 
 /// The program in which symbols have the new names, which aren't empty. All nodes that are given one are identifiers, so

@@ -22,6 +22,6 @@ pub use error::RenameError;
 pub use fixing::first_fixed;
 pub use program::run_rename;
 pub use rename::rename_program;
-pub use renaming::renamed;
+pub use renaming::{program_of, renamed, without_shorthand};
 pub use status::RenameStatus;
 pub use stops::USAGE;

@@ -62,7 +62,7 @@ fn with_kept(marks: Marks, kept: Marks, mark: Mark) -> Marks
 }
 
 /// The marks but `shorthand`.
-fn without_shorthand(marks: Marks) -> Marks
+pub fn without_shorthand(marks: Marks) -> Marks
     requires { marks.bits < 2 ^ 30 }
     ensures { result ≡ without_mark marks shorthand }
 {
@@ -170,7 +170,7 @@ fn renamed_root(
 }
 
 /// The program of a tree that has no fault once it is numbered.
-fn program_of(
+pub fn program_of(
     alloc: Global,
     source: Text,
     source_type: SourceType,
