@@ -19,7 +19,7 @@ use Rattle.check_model.specs.Search.{rows_if, row_if, each_after, find_last}
 use Rattle.check_model.specs.Sight.{Sight}
 use Rattle.swapped_checks.specs.RuleWords.{KeepsRuleWords}
 use Rattle.semantic_model.specs.Entries.{Among}
-use Rattle.swapped_checks.specs.SwappedSight.{is_signature, KeepsParameters}
+use Rattle.swapped_checks.specs.SwappedSight.{is_signature_list, KeepsParameters}
 use Rattle.swapped_checks.specs.SwappedRows.{AreToldAgain, redeclared_by_name}
 use Rattle.swapped_checks.proofs.Changed.{Change, IsChanged}
 use Rattle.swapped_checks.proofs.Pairwise.{Each, Agree, find_each, reverse_each, length_each, some_same, some_rows, flat_same, flat_each, told_where, after_rows}
@@ -89,7 +89,7 @@ module _ (f : Change) (keeps : KeepsRuleWords f.names) (s : Sight) (st : Setting
     repeats_told : AreToldAgain f.names (each_after repeated_rows [] (bound_names s.node)) (each_after repeated_rows [] (bound_names t.node))
     repeats_told = after_rows f.names P repeated_rows repeated_rows repeated_told [] [] (bound_names s.node) (bound_names t.node) tt (named_each (bound_names s.node) (bound_names t.node) (bound_each f s.node t.node mine) (map (λ x. x.text) (bound_names s.node)) (λ u h. h))
 
-  pub parameters_told : (is_signature s.node ≡ true → KeepsParameters f.names s.node) → s.node.kind ≡ kind.FormalParameters → AreToldAgain f.names (check_formal_parameters s) (check_formal_parameters t)
+  pub parameters_told : (is_signature_list s.node ≡ true → KeepsParameters f.names s.node) → s.node.kind ≡ kind.FormalParameters → AreToldAgain f.names (check_formal_parameters s) (check_formal_parameters t)
   parameters_told apart k =
       told_where f.names (has_text (codes "signature") s.node && nat_lt 1 (length (all_in role.Items s.node))) (has_text (codes "signature") t.node && nat_lt 1 (length (all_in role.Items t.node)))
       (each_after repeated_rows [] (bound_names s.node)) (each_after repeated_rows [] (bound_names t.node))

@@ -33,7 +33,7 @@ use Rattle.check_model.specs.Surroundings.{is_in_static_block}
 use Rattle.check_model.specs.Sight.{Sight}
 use Rattle.swapped_checks.specs.RuleWords.{rule_words, is_rule_word, KeepsRuleWords}
 use Rattle.swapped_checks.specs.SwappedRows.{AreToldAgain}
-use Rattle.swapped_checks.specs.SwappedSight.{HasPlainParts, is_signature, KeepsParameters}
+use Rattle.swapped_checks.specs.SwappedSight.{HasPlainParts, is_signature_list, KeepsParameters}
 use Rattle.swapped_checks.proofs.Changed.{Change, IsChanged, changed_at, IsChangedSight}
 use Rattle.swapped_checks.proofs.Pairwise.{Each, told_all, told_equal, told_append}
 use Rattle.swapped_checks.proofs.RenamedNodes.{mark_agrees, either_text}
@@ -141,7 +141,7 @@ module _ (f : Change) (keeps : KeepsRuleWords f.names) where
     loops_same : check_for_of_statement t ≡ check_for_of_statement s
     loops_same = ap (λ b. row_if (b && is_in_static_block s) (class_static_block_for_await s.node.span)) (mark_agrees f mark.Await refl s.node t.node (own f s st r path above))
 
-    module _ (parts : HasPlainParts s) (strings : is kind.StringLiteral s.node ≡ true → t.node.text ≡ s.node.text) (apart_still : is_signature s.node ≡ true → KeepsParameters f.names s.node) where
+    module _ (parts : HasPlainParts s) (strings : is kind.StringLiteral s.node ≡ true → t.node.text ≡ s.node.text) (apart_still : is_signature_list s.node ≡ true → KeepsParameters f.names s.node) where
       pub rows_told : (k : AstType) → s.node.kind ≡ k → AreToldAgain f.names (rows_by k s) (rows_by k t)
       rows_told kind.Program e =
           told_append f.names (check_duplicate_class_elements s ++ check_unresolved_exports s ++ check_import_value_redeclarations s) (check_duplicate_class_elements t ++ check_unresolved_exports t ++ check_import_value_redeclarations t) (check_ts_export_assignment_in_program s) (check_ts_export_assignment_in_program t)
@@ -194,10 +194,10 @@ module _ (f : Change) (keeps : KeepsRuleWords f.names) where
   abbrev put : Sight → Node → List Node → List Symbol → Sight
   put s n path symbols = record s { node = n; path = path; symbols = symbols }
 
-  told_at : (m n : Node) → IsChanged f m n → (s : Sight) (path : List Node) → Each (IsChanged f) s.path path → HasPlainParts (put s m s.path s.symbols) → (is kind.StringLiteral m ≡ true → n.text ≡ m.text) → (is_signature m ≡ true → KeepsParameters f.names m) → AreToldAgain f.names (rows_of (put s m s.path s.symbols)) (rows_of (put s n path (map (renamed_symbol f.names) s.symbols)))
+  told_at : (m n : Node) → IsChanged f m n → (s : Sight) (path : List Node) → Each (IsChanged f) s.path path → HasPlainParts (put s m s.path s.symbols) → (is kind.StringLiteral m ≡ true → n.text ≡ m.text) → (is_signature_list m ≡ true → KeepsParameters f.names m) → AreToldAgain f.names (rows_of (put s m s.path s.symbols)) (rows_of (put s n path (map (renamed_symbol f.names) s.symbols)))
   told_at _ _ (changed_at st r node) s path above parts strings names = rows_told (put s node s.path s.symbols) st r path above parts strings names node.kind refl
 
-  pub sights_told : (s t : Sight) → HasPlainParts s → IsChangedSight f s t → (is_signature s.node ≡ true → KeepsParameters f.names s.node) → AreToldAgain f.names (rows_of s) (rows_of t)
+  pub sights_told : (s t : Sight) → HasPlainParts s → IsChangedSight f s t → (is_signature_list s.node ≡ true → KeepsParameters f.names s.node) → AreToldAgain f.names (rows_of s) (rows_of t)
   sights_told s t parts w names =
       let is : t ≡ put s t.node t.path (map (renamed_symbol f.names) s.symbols) = w.others ∙ ap (put s t.node t.path) w.symbols in
       subst (λ x. AreToldAgain f.names (rows_of s) (rows_of x)) (sym is) (told_at s.node t.node w.node s t.path w.path parts w.strings names)

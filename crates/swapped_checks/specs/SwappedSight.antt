@@ -53,8 +53,8 @@ module _ (f : Name → Name) where
     pub strings : is kind.StringLiteral s.node ≡ true → t.node.text ≡ s.node.text
 
 -- the parameters of a signature
-abbrev pub is_signature : Node → Bool
-is_signature node = is kind.FormalParameters node && has_text (codes "signature") node
+abbrev pub is_signature_list : Node → Bool
+is_signature_list node = is kind.FormalParameters node && has_text (codes "signature") node
 
 -- the names that a node binds, as the parameters of a signature, are the same exactly where they were
 abbrev pub KeepsParameters : (Name → Name) → Node → Type 0

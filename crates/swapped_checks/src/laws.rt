@@ -13,7 +13,7 @@ ghost use Rattle.program_laws.specs.ReadMarks.{unmarked_tree};
 ghost use Rattle.swapped_checks.specs.RuleWords.{is_rule_word, KeepsRuleWords};
 ghost use Rattle.swapped_checks.specs.SwappedPrograms.{holds_within, is_other_string, keeps_prototype};
 ghost use Rattle.swapped_checks.specs.SwappedRows.{AreToldAgain};
-ghost use Rattle.swapped_checks.specs.SwappedSight.{HasPlainParts, IsRenamedSight, is_signature, KeepsParameters};
+ghost use Rattle.swapped_checks.specs.SwappedSight.{HasPlainParts, IsRenamedSight, is_signature_list, KeepsParameters};
 
 /// Early errors only compare names. Take what the rules look at on leaving a node, and swap two names in it, neither of them one of
 /// the words of the rules: the node violates the same rules, in the same order, told at the same places. Each row is the same one,
@@ -33,7 +33,7 @@ pub fn swapped_names_leave_early_errors()
 pub fn one_rule_compares_names()
     ensures { (f : Name → Name) (s t : Sight) → KeepsRuleWords f → HasPlainParts s
         → IsRenamedSight f s t
-        → (is_signature s.node ≡ true → KeepsParameters f s.node)
+        → (is_signature_list s.node ≡ true → KeepsParameters f s.node)
         → AreToldAgain f (rows_of s) (rows_of t) }
 {}
 
