@@ -109,7 +109,7 @@ module _ (chosen : ℕ → Bool) (new : Name) where
       let node : Node = record { kind = k; span = span; text = text; marks = marks; children = below; node_id = id } in
       λ i. tree r k span (cond (chosen id) new text) (without_where (sheds chosen) mark.Shorthand node) (shed_first below i) id (shed_first after i)
 
-  still_identifiers : (g : Node → Marks) (f : Forest) → AreIdentifiers chosen f → AreIdentifiers chosen (remarked g f)
+  pub still_identifiers : (g : Node → Marks) (f : Forest) → AreIdentifiers chosen f → AreIdentifiers chosen (remarked g f)
   still_identifiers g nothing h = tt
   still_identifiers g (tree r k span text marks below id after) h = (h.0, still_identifiers g below h.1, still_identifiers g after h.2)
 
@@ -153,12 +153,12 @@ module _ (p : Tree) (faultless : first_fault p ≡ None) (numbered : IsNumbered 
         ∙ nameless_same chosen_here new setting (remarked shed p.root.children) (still_identifiers chosen_here new shed p.root.children (are_identifiers p faultless numbered s y there free)) in
         λ i. record p { root = record p.root { text = renamed_text nameless Elsewhere role.Root p.root.kind p.root.text; marks = sym (root_marks chosen_here p.root is_program) i; children = below i } }
 
-    walked : TwinSteps nameless (steps unmarked) (steps q)
+    pub walked : TwinSteps nameless (steps unmarked) (steps q)
     walked =
         twin_steps nameless (steps unmarked) (steps q) (steps (renamed_tree nameless unmarked)) (program_steps nameless unmarked)
         (subst (λ t. AlikeSteps nameless (steps q) (steps t)) in_common (program_steps nameless q))
 
-    same_made : events (steps unmarked) ≡ events (steps p)
+    pub same_made : events (steps unmarked) ≡ events (steps p)
     same_made = let keeps : KeepsRead shed = keeps_read (sheds chosen_here) in ap events (steps_same shed keeps p) ∙ events_same shed keeps (steps p)
 
     -- the events are the same, but for names
@@ -305,7 +305,7 @@ module _ (p : Tree) (faultless : first_fault p ≡ None) (numbered : IsNumbered 
         }
 
     -- each with the name of its symbol
-    told : (c e : Conflict) → Twinned (made_of p) (made_of q) now_named own_name c e → IsRenamedConflict p s new c e
+    pub told : (c e : Conflict) → Twinned (made_of p) (made_of q) now_named own_name c e → IsRenamedConflict p s new c e
     told c e w = record {
       made = w.made;
       among = w.among;
@@ -337,9 +337,12 @@ module _ (p : Tree) (faultless : first_fault p ≡ None) (numbered : IsNumbered 
       (all_told free (conflicts_of p) (conflicts_of q) (same_conflicts (events (steps p)) (events (steps q)) (now_named free) (own_name free) (table_of p) (table_of q) twins))
 
   -- where there are no namespaces, there are none in the renamed program
-  pub conflicts_kept_without : (r : Tree) → rename p s new ≡ Ok r → namespace_states (steps p) ≡ [] → ShareFlags (made_of p) → ShareFlags (made_of r) → AreRenamedConflicts p s new (conflicts_of p) (conflicts_of r)
-  conflicts_kept_without r h e share others =
+  pub states_without : (r : Tree) → rename p s new ≡ Ok r → namespace_states (steps p) ≡ [] → namespace_states (steps r) ≡ namespace_states (steps p)
+  states_without r h e =
       let (bad, none, same, is) = ends_renamed p s new r h in
       let marks : HaveSameAnalysis unmarked p = same_unmarked (sheds chosen_here) mark.Shorthand p refl in
       let none_there : namespace_states (steps q) ≡ [] = no_states (steps unmarked) (steps q) (walked (none_means_free p s none)) (marks.states ∙ e) in
-      conflicts_kept r h (ap (λ t. namespace_states (steps t)) is ∙ none_there ∙ sym e) share others
+      ap (λ t. namespace_states (steps t)) is ∙ none_there ∙ sym e
+
+  pub conflicts_kept_without : (r : Tree) → rename p s new ≡ Ok r → namespace_states (steps p) ≡ [] → ShareFlags (made_of p) → ShareFlags (made_of r) → AreRenamedConflicts p s new (conflicts_of p) (conflicts_of r)
+  conflicts_kept_without r h e share others = conflicts_kept r h (states_without r h e) share others

@@ -30,16 +30,16 @@ use Rattle.renaming_laws.proofs.KeptConflicts.{now_named, own_name, chosen_is, a
 use Rattle.renaming_laws.proofs.SameConflicts.{symbols_in, AreTwins, same_looks}
 
 -- what stands at the same place of the other list
-record Partner (g h : Made → Name) (m : Made) (ns : List Made) : Type 0 where
-  other : Made
-  among : Among other ns
-  symbol : m.symbol ≡ other.symbol
-  name : g m ≡ h other
+pub record Partner (g h : Made → Name) (m : Made) (ns : List Made) : Type 0 where
+  pub other : Made
+  pub among : Among other ns
+  pub symbol : m.symbol ≡ other.symbol
+  pub name : g m ≡ h other
 
-head_is : {A : Type 0} → (x y : A) (xs ys : List A) → ◌≡◌ {A = List A} (x ∷ xs) (y ∷ ys) → (x ≡ y) × (xs ≡ ys)
+pub head_is : {A : Type 0} → (x y : A) (xs ys : List A) → ◌≡◌ {A = List A} (x ∷ xs) (y ∷ ys) → (x ≡ y) × (xs ≡ ys)
 head_is x y xs ys e = (cc, cc)
 
-partner : (g h : Made → Name) (ms ns : List Made) (m : Made) → symbols_in ms ≡ symbols_in ns → map g ms ≡ map h ns → Among m ms → Partner g h m ns
+pub partner : (g h : Made → Name) (ms ns : List Made) (m : Made) → symbols_in ms ≡ symbols_in ns → map g ms ≡ map h ns → Among m ms → Partner g h m ns
 partner g h [] ns m e f a = absurd a
 partner g h (x ∷ ms) [] m e f a = absurd cc
 partner g h (x ∷ ms) (y ∷ ns) m e f (inl q) =
@@ -53,7 +53,7 @@ partner g h (x ∷ ms) (y ∷ ns) m e f (inr a) =
     record { other = w.other; among = inr w.among; symbol = w.symbol; name = w.name }
 
 -- a name of a symbol is its name
-named_once : (p : Tree) (r : ℕ) (y : Symbol) (x : Name) → slice_get (tables_of p).symbols r ≡ Some y → IsNamed (tables_of p) r x → y.name ≡ x
+pub named_once : (p : Tree) (r : ℕ) (y : Symbol) (x : Name) → slice_get (tables_of p).symbols r ≡ Some y → IsNamed (tables_of p) r x → y.name ≡ x
 named_once p r y x e w = ap (λ (z : Symbol). z.name) (some_is y w.symbol (sym e ∙ w.is_there)) ∙ w.named
 
 module _ (p : Tree) (faultless : first_fault p ≡ None) (numbered : IsNumbered p.root) (s : ℕ) (y : Symbol) (there : slice_get (tables_of p).symbols s ≡ Some y) (new : Name) where

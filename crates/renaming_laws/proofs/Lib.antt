@@ -19,3 +19,16 @@ pub mod AloneErrors
 pub mod KeptSymbols
 pub mod NamespaceLooks
 pub mod NamespaceNames
+pub mod FreshNames
+pub mod MarkedSymbol
+pub mod SeenSymbols
+pub mod TwinStates
+pub mod ToldThrough
+pub mod MarkedSymbols
+pub mod MarkedTests
+pub mod FreeReferences
+pub mod LastStep
+pub mod KeptErrors
+pub mod ToldSteps
+pub mod RootImports
+pub mod AllErrors

@@ -27,7 +27,7 @@ use Rattle.renaming_laws.proofs.Twins.{unnamed, TwinEvents}
 
 -- ---- the declarations that are made, one by one
 
-abbrev Paired : List Made → List Made → Type 0
+abbrev pub Paired : List Made → List Made → Type 0
 Paired [] [] = Unit {0}
 Paired (m ∷ ms) (n ∷ ns) = (unnamed m.declaration.naming ≡ unnamed n.declaration.naming) × Paired ms ns
 Paired _ _ = ⊥
@@ -38,7 +38,7 @@ paired_more [] (y ∷ ns) m n h e = absurd h
 paired_more (x ∷ ms) [] m n h e = absurd h
 paired_more (x ∷ ms) (y ∷ ns) m n h e = (h.0, paired_more ms ns m n h.1 e)
 
-paired_run : (es fs : List Event) (st sw : State) → TwinEvents es fs → Paired st.made sw.made → Paired (run st es).made (run sw fs).made
+pub paired_run : (es fs : List Event) (st sw : State) → TwinEvents es fs → Paired st.made sw.made → Paired (run st es).made (run sw fs).made
 paired_run [] [] st sw t h = h
 paired_run [] (y ∷ fs) st sw t h = absurd t
 paired_run (x ∷ es) [] st sw t h = absurd t

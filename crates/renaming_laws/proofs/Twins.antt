@@ -40,7 +40,7 @@ TwinEvents [] [] = Unit {0}
 TwinEvents (x ∷ xs) (y ∷ ys) = TwinEvent x y × TwinEvents xs ys
 TwinEvents _ _ = ⊥
 
-twins_append : (xs ys us vs : List Event) → TwinEvents xs ys → TwinEvents us vs → TwinEvents (xs ++ us) (ys ++ vs)
+pub twins_append : (xs ys us vs : List Event) → TwinEvents xs ys → TwinEvents us vs → TwinEvents (xs ++ us) (ys ++ vs)
 twins_append [] [] us vs h i = i
 twins_append [] (y ∷ ys) us vs h i = absurd h
 twins_append (x ∷ xs) [] us vs h i = absurd h
@@ -174,7 +174,7 @@ self_twin (declares d) = refl
 self_twin (takes_over c b) = (refl, refl)
 self_twin (ends_header c) = refl
 
-step_twins : (ds es : List Declaration) (x y : Step) → TwinStep nameless x y → state_at x ≡ state_at y → TwinEvents (events_of ds x) (events_of es y)
+pub step_twins : (ds es : List Declaration) (x y : Step) → TwinStep nameless x y → state_at x ≡ state_at y → TwinEvents (events_of ds x) (events_of es y)
 step_twins ds es (entering x) (entering y) w e = all_twins ds es (declared_on_entering x) (declared_on_entering y) (declared_twins nameless x y w e)
 step_twins ds es (opening x s) (opening y t) w e =
     subst (λ o. TwinEvents (events_of ds (opening x s)) (events_of es (opening y o))) (sym w.1)
@@ -187,7 +187,7 @@ step_twins ds es (leaving x) (leaving y) w e = tt
 step_twins ds es _ _ w e = absurd w
 
 -- states in the same order belong to the same namespaces
-first_states : (x y : Step) (xs ys : List Step) → TwinStep nameless x y → namespace_states (x ∷ xs) ≡ namespace_states (y ∷ ys) → (state_at x ≡ state_at y) × (namespace_states xs ≡ namespace_states ys)
+pub first_states : (x y : Step) (xs ys : List Step) → TwinStep nameless x y → namespace_states (x ∷ xs) ≡ namespace_states (y ∷ ys) → (state_at x ≡ state_at y) × (namespace_states xs ≡ namespace_states ys)
 first_states (entering x) (entering y) xs ys w e = go (same_kind x.node.kind kind.TSNamespaceDeclaration) refl e
   where
     sx : InstanceState

@@ -42,7 +42,7 @@ use Rattle.swapped_checks.specs.SwappedPrograms.{holds_within}
 use Rattle.swapped_checks.specs.SwappedRows.{AreToldAgain, redeclared_by_name}
 use Rattle.swapped_checks.proofs.Pairwise.{told_append}
 use Rattle.swapped_checks.proofs.Changed.{Change, changed_tree}
-use Rattle.swapped_checks.proofs.SeenPlaces.{Tells, plain_parts, seen_place}
+use Rattle.swapped_checks.proofs.SeenPlaces.{Tells, seen_state, plain_parts, seen_place}
 use Rattle.swapped_checks.proofs.Spots.{SpotStep, Spots, program_spots}
 use Rattle.swapped_checks.proofs.Told.{sights_told}
 
@@ -108,7 +108,7 @@ module _ (f : Change) (words : KeepsRuleWords f.names) (keeps : Keeps f.names) w
 
   module _ (test : Node → Bool) (tells : Tells f.names test) (source free : List ℕ) where
     step_told : (checks : Bool) (st : State) (x y : Step) → AlikeStep f.names (remarked_step f.marks x) y → SpotStep f test x y → AreToldAgain f.names (rows_at checks source free st x) (rows_at checks source free (renamed_state f.names st) y)
-    step_told true st (leaving p) (leaving q) h w = sights_told f words (sight_of source free st p) (sight_of source free (renamed_state f.names st) q) (plain_parts f words keeps test tells source free st p q w) (seen_place f words keeps test tells source free st p q h w) (λ e a b i j. keeps.equal a b)
+    step_told true st (leaving p) (leaving q) h w = sights_told f words (sight_of source free st p) (sight_of source free (renamed_state f.names st) q) (plain_parts f words test tells source free st p q w) (seen_place f words test tells source free st (renamed_state f.names st) p q (seen_state f words test tells st) h w) (λ e a b i j. keeps.equal a b)
     step_told true st (entering p) (entering q) h w = tt
     step_told true st (opening p s) (opening q t) h w = tt
     step_told true st (header_ending p s) (header_ending q t) h w = tt
