@@ -25,7 +25,7 @@ TYPE = re.compile(r"(?<!')\b\w+")
 # What the prover says: of a function, of a place in a file, and of a proof that only lacks what the edit took away.
 VERDICT = re.compile(r"^fn (\S+): (.*)$", re.M)
 ERROR = re.compile(r"^(?:\./)?((?:src|specs|proofs)/\S+?):\d+:\d+: error: (.*)$", re.M)
-SHAPE = re.compile(r"has no field|is not in scope|has no `|was not admitted")
+SHAPE = re.compile(r"has no field|\(nearest: |is not in scope|has no `|was not admitted")
 UNPROVED = re.compile(r"`search` did not prove (`[^;]*)")
 
 # A function by its module, by its type with the trait, as the prover names that, where it is a method, and by its name.
