@@ -4,6 +4,7 @@ pub mod PartingPrograms
 pub mod Rows
 pub mod MisplacedFunctions
 pub mod SwitchShape
+pub mod with_bodies
 pub mod EnvironmentsRound
 pub mod Innermost
 pub mod DeclaredAsBound
