@@ -3,6 +3,7 @@ pub mod Programs
 pub mod PartingPrograms
 pub mod Rows
 pub mod MisplacedFunctions
+pub mod clashes
 pub mod SwitchShape
 pub mod with_bodies
 pub mod EnvironmentsRound
