@@ -2,7 +2,9 @@ pub mod Programs
 pub mod PartingPrograms
 pub mod Rows
 pub mod MisplacedFunctions
+pub mod clashes
 pub mod SwitchShape
+pub mod with_bodies
 pub mod EnvironmentsRound
 pub mod Innermost
 pub mod DeclaredAsBound

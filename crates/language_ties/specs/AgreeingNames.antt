@@ -11,7 +11,7 @@ use Rattle.semantic_model.specs.Place.{Place}
 use Rattle.semantic_model.specs.Step.{entering, steps}
 use Rattle.tangle_model.specs.Surroundings.{in_with_under}
 use Rattle.language_ties.specs.Agreement.{use_agrees}
-use Rattle.language_ties.specs.Bound.{Bound, bound_by_node, is_bound_as, written}
+use Rattle.language_ties.specs.Bound.{Bound, is_bound_as, written}
 use Rattle.language_ties.specs.Environments.{Environment, is_made_for, has_parameter_expressions}
 use Rattle.language_ties.specs.Meaning.{use_at}
 use Rattle.language_ties.specs.Moved.{bound_of}
@@ -40,11 +40,6 @@ IsBoundPlainly p name = (b : Bound) → Among b (written p.source_type (steps p)
 pub record IsPlainName (p : Tree) (name : Name) : Type 0 where
   pub each : IsBoundPlainly p name
   pub unpassed : (b c : Bound) → Among b (written p.source_type (steps p)) → Among c (written p.source_type (steps p)) → b.name ≡ name → c.name ≡ name → is_bound_as bound.CatchName b ≡ true → is_bound_as bound.Var c ≡ true → Among b.environment c.passed → ⊥
-
--- no `with` holds what binds the name
-abbrev pub IsBoundOutsideWith : Tree → Name → Type 0
-IsBoundOutsideWith p name =
-    (q : Place) → Among (entering q) (steps p) → (b : Bound) → Among b (bound_by_node q.node.kind p.source_type q.node q.path) → b.name ≡ name → in_with_under q.path ≡ false
 
 -- of the functions among whose parameters the place stands, each that binds the name has an expression there
 abbrev pub StandsInExpressions : List Bound → Name → Node → List Node → Type 0

@@ -6,16 +6,14 @@ use Rattle.semantic_model.specs.Analysis.{analysis_of, symbol_at}
 use Rattle.semantic_model.specs.Entries.{Among}
 use Rattle.semantic_model.specs.Place.{Place}
 use Rattle.semantic_model.specs.Step.{entering, steps}
-use Rattle.tangle_model.specs.Surroundings.{in_with_under}
 use Rattle.language_ties.specs.Bound.{Bound, bound_by_node, is_bound_as}
 use Rattle.language_ties.specs.ToldNames.{may_leave_block}
 use Rattle.language_ties.specs.declared.bound_as.BoundAs.TheVariants as bound
 
--- a node binds it, outside of `with`, neither as a function that may leave its block nor as the own name of an expression
+-- a node binds it, neither as a function that may leave its block nor as the own name of an expression
 pub record IsBoundByNode (p : Tree) (b : Bound) : Type 0 where
   pub place : Place
   pub entered : Among (entering place) (steps p)
-  pub apart_from_with : in_with_under place.path ≡ false
   pub no_leaving : may_leave_block p.source_type place.node place.path ≡ false
   pub no_own_name : is_bound_as bound.OwnName b ≡ false
   pub binds : Among b (bound_by_node place.node.kind p.source_type place.node place.path)

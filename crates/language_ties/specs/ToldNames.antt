@@ -12,7 +12,6 @@ use Rattle.semantic_model.specs.EachStep.{EachStep}
 use Rattle.semantic_model.specs.Place.{Place}
 use Rattle.semantic_model.specs.ScopeKind.{opened_scope}
 use Rattle.semantic_model.specs.Step.{Step, entering, opening, header_ending, closing, leaving, steps}
-use Rattle.tangle_model.specs.Surroundings.{in_with_under}
 use Rattle.language_ties.specs.Bound.{Bound, bound_by_node, is_block_function}
 use Rattle.language_ties.specs.Environments.{environments, innermost, is_made_for}
 use Rattle.language_ties.specs.declared.environment_kind.EnvironmentKind.TheVariants as environment
@@ -37,7 +36,7 @@ may_leave_block s x path =
 -- what the tables are told of a node, in its scope or around it, is what the language binds
 abbrev pub DeclaresAsBound : SourceType → Place → Type 0
 DeclaresAsBound s p =
-    in_with_under p.path ≡ false → may_leave_block s p.node p.path ≡ false
+    may_leave_block s p.node p.path ≡ false
     → map told_by_declaration (declared_on_opening p (opened_scope p 0) ++ declared_on_entering p) ≡ map told_by_bound (bound_by_node p.node.kind s p.node p.path)
 
 abbrev pub Declares : SourceType → Step → Type 0

@@ -40,7 +40,7 @@ use Rattle.semantic_model.proofs.steps.TurnCases.{opening_case, ending_case, las
 use Rattle.walk_model.proofs.places.Shapes.{holds_below}
 use Rattle.binding_laws.proofs.CutSteps.{WillAwait}
 use Rattle.tangle_model.specs.Surroundings.{in_with_under}
-use Rattle.language_ties.specs.AgreeingNames.{IsPlainName, IsBoundOutsideWith, StandsInExpressions}
+use Rattle.language_ties.specs.AgreeingNames.{IsPlainName, StandsInExpressions}
 use Rattle.language_ties.specs.Bound.{Bound, is_bound_as, written}
 use Rattle.language_ties.specs.EcmaScript.{is_ecmascript}
 use Rattle.language_ties.specs.Environments.{Environment, same_environment_kind, is_made_for, is_outside_body, has_parameter_expressions, made_by, environments, innermost}
@@ -87,7 +87,7 @@ cons_self x xs h = let w : suc (length xs) ≡ length xs = ap length h in omega 
 never : true ≡ false → ⊥
 never h = absurd cc
 
-module _ (p : Tree) (h : first_fault p ≡ None) (e : is_ecmascript p ≡ true) (numbered : IsNumbered p.root) (x : Name) (none : IsBoundOutsideWith p x) (not_arguments : bytes_eq x (codes "arguments") ≡ false) (clear : AllKeepClear x (declarations (events (steps p)))) (plain : IsPlainName p x) where
+module _ (p : Tree) (h : first_fault p ≡ None) (e : is_ecmascript p ≡ true) (numbered : IsNumbered p.root) (x : Name) (not_arguments : bytes_eq x (codes "arguments") ≡ false) (clear : AllKeepClear x (declarations (events (steps p)))) (plain : IsPlainName p x) where
   abbrev es : List Event
   es = events (steps p)
 
@@ -101,16 +101,16 @@ module _ (p : Tree) (h : first_fault p ≡ None) (e : is_ecmascript p ≡ true) 
   bs = bound_of p
 
   abbrev Known : Bound → Type 0
-  Known b = KnownBound p h e numbered x none plain b
+  Known b = KnownBound p h e numbered x plain b
 
   abbrev Any : Bound → Type 0
-  Any b = AnyBound p h e numbered x none plain b
+  Any b = AnyBound p h e numbered x plain b
 
   abbrev IsHere : Environment → ℕ → Type 0
-  IsHere d i = scopes.IsHere p h e numbered x none not_arguments clear plain d i
+  IsHere d i = scopes.IsHere p h e numbered x not_arguments clear plain d i
 
   abbrev IsClassHere : Environment → Bound → Type 0
-  IsClassHere d b = scopes.IsClassHere p h e numbered x none not_arguments clear plain d b
+  IsClassHere d b = scopes.IsClassHere p h e numbered x not_arguments clear plain d b
 
   -- ---- a child of a place
 
@@ -136,10 +136,10 @@ module _ (p : Tree) (h : first_fault p ≡ None) (e : is_ecmascript p ≡ true) 
     M = makers E
 
     outer_round : map maker_of_scope q.chain ≡ M
-    outer_round = seen.known.round (with_outer q apart_here)
+    outer_round = seen.known.round
 
     child_round : map maker_of_scope c.chain ≡ makers (made_by q.node.kind q.node c.node ++ E)
-    child_round = seen_child.known.round apart ∙ ap (λ l. makers (environments c.node l)) path
+    child_round = seen_child.known.round ∙ ap (λ l. makers (environments c.node l)) path
 
     -- what is to be shown of the environments that the parent makes
     abbrev Shows : List OpenScope → List Environment → Type 0
@@ -169,7 +169,7 @@ module _ (p : Tree) (h : first_fault p ≡ None) (e : is_ecmascript p ≡ true) 
       H = get (run start (until_end_of s.number es)).bindings s.number x
 
       awaited : s.in_header ≡ true → WillAwait s.number [] (steps p)
-      awaited v = awaits p h e numbered x none clear plain c s seen_child.entered (subst (Among s) (sym chain) (inl refl)) no_identifier v
+      awaited v = awaits p h e numbered x clear plain c s seen_child.entered (subst (Among s) (sym chain) (inl refl)) no_identifier v
 
       -- in no header the scope is seen as it is in the end, in one as it stands when that ends
       seen_by : (ds : List Environment) → (s.in_header ≡ false → Matches p N (meaning bs E x) → Matches p (or_else (get final.bindings s.number x) N) (meaning bs (ds ++ E) x)) → (s.in_header ≡ true → Expressed → Matches p N (meaning bs E x) → Matches p (or_else H N) (meaning bs (ds ++ E) x)) → Shows (s ∷ q.chain) ds
@@ -184,10 +184,10 @@ module _ (p : Tree) (h : first_fault p ≡ None) (e : is_ecmascript p ≡ true) 
       unseen m g k = subst (λ t. Matches p (or_else t N) m) (sym g) k
 
       abbrev OfOpener : Type 0
-      OfOpener = scopes.IsBoundThere p h e numbered x none not_arguments clear plain s s_opened s_entry q.node opener seen.familiar.node
+      OfOpener = scopes.IsBoundThere p h e numbered x not_arguments clear plain s s_opened s_entry q.node opener seen.familiar.node
 
       abbrev IsBoundBy : Bound → Type 0
-      IsBoundBy b = scopes.IsThere p h e numbered x none not_arguments clear plain s s_opened s_entry q.node opener seen.familiar.node b
+      IsBoundBy b = scopes.IsThere p h e numbered x not_arguments clear plain s s_opened s_entry q.node opener seen.familiar.node b
 
       -- what the clause binds, in its header
       module _ (v : s.in_header ≡ true) (caught : q.node.kind ≡ kind.CatchClause) where
@@ -195,7 +195,7 @@ module _ (p : Tree) (h : first_fault p ≡ None) (e : is_ecmascript p ≡ true) 
         Clause = record { kind = environment.Catch; maker = q.node.node_id }
 
         by_clause : (w : OfOpener) → w.bind.environment ≡ Clause
-        by_clause w = environment_is p h e numbered x none not_arguments clear plain s s_opened s_entry q.node opener seen.familiar.node w environment.Catch (environment_kind_is w.bind.environment.kind environment.Catch (subst (λ a. may_make a w.bind.environment.kind ≡ true) caught w.makes))
+        by_clause w = environment_is p h e numbered x not_arguments clear plain s s_opened s_entry q.node opener seen.familiar.node w environment.Catch (environment_kind_is w.bind.environment.kind environment.Catch (subst (λ a. may_make a w.bind.environment.kind ≡ true) caught w.makes))
 
         no_name : (b : Bound) → OwnBound p h x b → b.environment.maker ≡ s.opener → ⊥
         no_name b o maker =
@@ -214,12 +214,12 @@ module _ (p : Tree) (h : first_fault p ≡ None) (e : is_ecmascript p ≡ true) 
 
         caught_seen : (i : ℕ) → Among i (identifiers_in bs Clause x) → (y : ℕ) × (H ≡ Some y) × (symbol_at (analysis_of p) i ≡ Some y)
         caught_seen i a =
-            let k : IsHere Clause i = is_here p h e numbered x none not_arguments clear plain Clause i a in
-            let there : k.bind.environment ≡ Clause = directly p h e numbered x none not_arguments clear plain Clause i refl k in
-            let known : Known k.bind = visible p h e numbered x none not_arguments clear plain Clause k.bind k.known there refl refl in
+            let k : IsHere Clause i = is_here p h e numbered x not_arguments clear plain Clause i a in
+            let there : k.bind.environment ≡ Clause = directly p h e numbered x not_arguments clear plain Clause i refl k in
+            let known : Known k.bind = visible p h e numbered x not_arguments clear plain Clause k.bind k.known there refl refl in
             let maker : k.bind.environment.maker ≡ q.node.node_id = ap (λ z. z.maker) there in
-            let (y, seen_too, symbol) = caught_answers p h e numbered x none clear plain s s_opened (awaited v) whole k.bind known k.named (opener ∙ sym maker)
-            (caught_in_header p h e numbered x none clear plain k.bind k.named known (ap (is_made_for environment.Catch) there) q.node (ap (node_at p) maker ∙ seen.familiar.node) caught) no_name in
+            let (y, seen_too, symbol) = caught_answers p h e numbered x clear plain s s_opened (awaited v) whole k.bind known k.named (opener ∙ sym maker)
+            (caught_in_header p h e numbered x clear plain k.bind k.named known (ap (is_made_for environment.Catch) there) q.node (ap (node_at p) maker ∙ seen.familiar.node) caught) no_name in
             (y, seen_too, subst (λ j. symbol_at (analysis_of p) j ≡ Some y) k.identifier symbol)
 
         all_caught : (y : ℕ) → H ≡ Some y → (is : List ℕ) → ((i : ℕ) → Among i is → Among i (identifiers_in bs Clause x)) → AllAre p is y
@@ -234,14 +234,14 @@ module _ (p : Tree) (h : first_fault p ≡ None) (e : is_ecmascript p ≡ true) 
             go : (is : List ℕ) → identifiers_in bs Clause x ≡ is → Matches p (or_else H N) (meaning bs (Clause ∷ E) x)
             go [] i =
                 subst (Matches p (or_else H N)) (sym (meaning_further bs x not_arguments Clause E refl i))
-                (unseen (meaning bs E x) (silent p h e numbered x none clear plain s s_opened (awaited v) whole (λ b a n k body. (let t : IsBoundBy b = is_there p h e numbered x none not_arguments clear plain s s_opened s_entry q.node opener seen.familiar.node b a n (k ∙ opener) in none_there p h e numbered x none not_arguments clear plain s s_opened s_entry q.node opener seen.familiar.node Clause i t.there (by_clause t.there)))) m)
+                (unseen (meaning bs E x) (silent p h e numbered x clear plain s s_opened (awaited v) whole (λ b a n k body. (let t : IsBoundBy b = is_there p h e numbered x not_arguments clear plain s s_opened s_entry q.node opener seen.familiar.node b a n (k ∙ opener) in none_there p h e numbered x not_arguments clear plain s s_opened s_entry q.node opener seen.familiar.node Clause i t.there (by_clause t.there)))) m)
             go (i ∷ is) j =
                 let (y, there, symbol) = caught_seen i (subst (Among i) (sym j) (inl refl)) in
                 subst (Matches p (or_else H N)) (sym (meaning_here bs x not_arguments Clause E i is refl j))
                 (y, ap (λ z. or_else z N) there, all_caught y there (i ∷ is) (λ k a. subst (Among k) (sym j) a))
 
       one_shows : (k : EnvironmentKind) → ((j : EnvironmentKind) → may_make q.node.kind j ≡ true → j ≡ k) → IsOrdinary k → (s.in_header ≡ true → ⊥) → Shows (s ∷ q.chain) (record { kind = k; maker = q.node.node_id } ∷ [])
-      one_shows k only n no_header = seen_by (record { kind = k; maker = q.node.node_id } ∷ []) (λ v. one p h e numbered x none not_arguments clear plain s s_opened s_entry q.node opener seen.familiar.node whole k E only n N) (λ v fits m. absurd (no_header v))
+      one_shows k only n no_header = seen_by (record { kind = k; maker = q.node.node_id } ∷ []) (λ v. one p h e numbered x not_arguments clear plain s s_opened s_entry q.node opener seen.familiar.node whole k E only n N) (λ v fits m. absurd (no_header v))
 
       -- outside of its body's environment a child of a function stands in its header
       in_header : is_function_kind q.node.kind ≡ true → is_outside_body c.node ≡ true → s.in_header ≡ false → ⊥
@@ -279,23 +279,23 @@ module _ (p : Tree) (h : first_fault p ≡ None) (e : is_ecmascript p ≡ true) 
           Parameters = record { kind = k; maker = q.node.node_id }
 
           go : (is : List ℕ) → identifiers_in bs Parameters x ≡ is → Matches p (or_else H N) (meaning bs (Parameters ∷ (ds ++ E)) x)
-          go [] i = subst (Matches p (or_else H N)) (sym (meaning_further bs x not_arguments Parameters (ds ++ E) n.0 i)) (rest (λ w z. none_there p h e numbered x none not_arguments clear plain s s_opened s_entry q.node opener seen.familiar.node Parameters i w z) m)
+          go [] i = subst (Matches p (or_else H N)) (sym (meaning_further bs x not_arguments Parameters (ds ++ E) n.0 i)) (rest (λ w z. none_there p h e numbered x not_arguments clear plain s s_opened s_entry q.node opener seen.familiar.node Parameters i w z) m)
           go (i ∷ is) j =
-              let w : IsHere Parameters i = is_here p h e numbered x none not_arguments clear plain Parameters i (subst (Among i) (sym j) (inl refl)) in
-              let env : w.bind.environment ≡ Parameters = directly p h e numbered x none not_arguments clear plain Parameters i n.1 w in
-              let known : Known w.bind = visible p h e numbered x none not_arguments clear plain Parameters w.bind w.known env n.1 n.2 in
-              let same : H ≡ get final.bindings s.number x = answers_too p h e numbered x none clear plain s s_opened (awaited v) whole w.bind known w.named (opener ∙ sym (ap (λ z. z.maker) env)) (subst (λ d. is_parameters d ≡ true) (sym env) parameters)
+              let w : IsHere Parameters i = is_here p h e numbered x not_arguments clear plain Parameters i (subst (Among i) (sym j) (inl refl)) in
+              let env : w.bind.environment ≡ Parameters = directly p h e numbered x not_arguments clear plain Parameters i n.1 w in
+              let known : Known w.bind = visible p h e numbered x not_arguments clear plain Parameters w.bind w.known env n.1 n.2 in
+              let same : H ≡ get final.bindings s.number x = answers_too p h e numbered x clear plain s s_opened (awaited v) whole w.bind known w.named (opener ∙ sym (ap (λ z. z.maker) env)) (subst (λ d. is_parameters d ≡ true) (sym env) parameters)
               (λ f found. subst (λ g. has_parameter_expressions g ≡ true) (some_is q.node f (sym seen.familiar.node ∙ ap (λ d. node_at p d.maker) (sym env) ∙ found)) (fits w.bind w.among w.named (ap (λ d. d.maker) env))) in
-              subst (λ t. Matches p (or_else t N) (meaning bs (Parameters ∷ (ds ++ E)) x)) (sym same) (here p h e numbered x none not_arguments clear plain s s_opened s_entry q.node opener seen.familiar.node Parameters (ds ++ E) refl n i is j N)
+              subst (λ t. Matches p (or_else t N) (meaning bs (Parameters ∷ (ds ++ E)) x)) (sym same) (here p h e numbered x not_arguments clear plain s s_opened s_entry q.node opener seen.familiar.node Parameters (ds ++ E) refl n i is j N)
 
       -- an arrow has no other environment, a function that of its name
       arrow_header : q.node.kind ≡ kind.ArrowFunctionExpression → s.in_header ≡ true → HeaderRest environment.ArrowParameters []
-      arrow_header w v no_parameters m = unseen (meaning bs E x) (silent p h e numbered x none clear plain s s_opened (awaited v) whole (λ b a n k body. by b body (is_there p h e numbered x none not_arguments clear plain s s_opened s_entry q.node opener seen.familiar.node b a n (k ∙ opener)))) m
+      arrow_header w v no_parameters m = unseen (meaning bs E x) (silent p h e numbered x clear plain s s_opened (awaited v) whole (λ b a n k body. by b body (is_there p h e numbered x not_arguments clear plain s s_opened s_entry q.node opener seen.familiar.node b a n (k ∙ opener)))) m
         where
           by : (b : Bound) → is_made_for environment.Body b.environment ≡ false → IsBoundBy b → ⊥
           by b body t = elim (arrow_kinds t.there.bind.environment.kind (subst (λ a. may_make a t.there.bind.environment.kind ≡ true) w t.there.makes)) [
             | inl z ↦ never (sym (ap (λ y. same_environment_kind y environment.Body) (sym (ap (λ y. y.environment.kind) t.same) ∙ z)) ∙ body)
-            | inr z ↦ no_parameters t.there (environment_is p h e numbered x none not_arguments clear plain s s_opened s_entry q.node opener seen.familiar.node t.there environment.ArrowParameters z)
+            | inr z ↦ no_parameters t.there (environment_is p h e numbered x not_arguments clear plain s s_opened s_entry q.node opener seen.familiar.node t.there environment.ArrowParameters z)
           ]
 
       module _ (w : q.node.kind ≡ kind.Function) (v : s.in_header ≡ true) (no_parameters : (t : OfOpener) → t.bind.environment ≡ record { kind = environment.Parameters; maker = q.node.node_id } → ⊥) where
@@ -304,11 +304,11 @@ module _ (p : Tree) (h : first_fault p ≡ None) (e : is_ecmascript p ≡ true) 
 
         -- but for the body's environment, that of the name alone binds it
         named_alone : (b : Bound) → is_made_for environment.Body b.environment ≡ false → (t : IsBoundBy b) → t.there.bind.environment ≡ HeaderName
-        named_alone b body t = elim (function_kinds t.there.bind.environment.kind (subst (λ a. may_make a t.there.bind.environment.kind ≡ true) w t.there.makes) (no_if_body p h e numbered x none not_arguments clear plain t.there.bind t.there.known)) [
+        named_alone b body t = elim (function_kinds t.there.bind.environment.kind (subst (λ a. may_make a t.there.bind.environment.kind ≡ true) w t.there.makes) (no_if_body p h e numbered x not_arguments clear plain t.there.bind t.there.known)) [
           | inl z ↦ absurd (never (sym (ap (λ y. same_environment_kind y environment.Body) (sym (ap (λ y. y.environment.kind) t.same) ∙ z)) ∙ body))
           | inr z ↦ elim z [
-            | inl y ↦ absurd (no_parameters t.there (environment_is p h e numbered x none not_arguments clear plain s s_opened s_entry q.node opener seen.familiar.node t.there environment.Parameters y))
-            | inr y ↦ environment_is p h e numbered x none not_arguments clear plain s s_opened s_entry q.node opener seen.familiar.node t.there environment.OwnName y
+            | inl y ↦ absurd (no_parameters t.there (environment_is p h e numbered x not_arguments clear plain s s_opened s_entry q.node opener seen.familiar.node t.there environment.Parameters y))
+            | inr y ↦ environment_is p h e numbered x not_arguments clear plain s s_opened s_entry q.node opener seen.familiar.node t.there environment.OwnName y
           ]
         ]
 
@@ -317,23 +317,23 @@ module _ (p : Tree) (h : first_fault p ≡ None) (e : is_ecmascript p ≡ true) 
 
         own_apart : (b : Bound) → Among b ws → b.name ≡ x → is_bound_as way.OwnName b ≡ false → b.environment.maker ≡ s.opener → is_made_for environment.Body b.environment ≡ false → ⊥
         own_apart b a n u k body =
-            let t : IsBoundBy b = is_there p h e numbered x none not_arguments clear plain s s_opened s_entry q.node opener seen.familiar.node b a n (k ∙ opener) in
+            let t : IsBoundBy b = is_there p h e numbered x not_arguments clear plain s s_opened s_entry q.node opener seen.familiar.node b a n (k ∙ opener) in
             let env : b.environment ≡ HeaderName = ap (λ z. z.environment) (sym t.same) ∙ named_alone b body t in
-            elim (any_bound p h e numbered x none plain b a n) [
+            elim (any_bound p h e numbered x plain b a n) [
               | inl known ↦ not_declared_there b known env
               | inr own ↦ never (sym own.own ∙ u)
             ]
 
         own_seen : (i : ℕ) → Among i (identifiers_in bs HeaderName x) → (y : ℕ) × (H ≡ Some y) × (symbol_at (analysis_of p) i ≡ Some y)
         own_seen i a =
-            let k : IsHere HeaderName i = is_here p h e numbered x none not_arguments clear plain HeaderName i a in
-            let there : k.bind.environment ≡ HeaderName = directly p h e numbered x none not_arguments clear plain HeaderName i refl k in
+            let k : IsHere HeaderName i = is_here p h e numbered x not_arguments clear plain HeaderName i a in
+            let there : k.bind.environment ≡ HeaderName = directly p h e numbered x not_arguments clear plain HeaderName i refl k in
             elim k.known [
               | inl known ↦ absurd (not_declared_there k.bind known there)
               | inr own ↦ (let maker : own.place.node.node_id ≡ q.node.node_id = sym (own_maker p h x k.bind own) ∙ ap (λ z. z.maker) there in
                   let familiar : IsFamiliar (node_at p) own.place = each_at (FamiliarAt (node_at p)) (steps p) (entering own.place) (familiar_program p h e numbered) own.entered in
                   let same : own.place.node ≡ q.node = some_is own.place.node q.node (sym familiar.node ∙ ap (node_at p) maker ∙ seen.familiar.node) in
-                  let (y, is_there_too, symbol) = own_answers p h e numbered x none clear plain s s_opened (awaited v) whole k.bind own (opener ∙ sym maker) (ap (λ z. z.kind) same ∙ w) own_apart in
+                  let (y, is_there_too, symbol) = own_answers p h e numbered x clear plain s s_opened (awaited v) whole k.bind own (opener ∙ sym maker) (ap (λ z. z.kind) same ∙ w) own_apart in
                   (y, is_there_too, subst (λ j. symbol_at (analysis_of p) j ≡ Some y) k.identifier symbol))
             ]
 
@@ -349,19 +349,19 @@ module _ (p : Tree) (h : first_fault p ≡ None) (e : is_ecmascript p ≡ true) 
             go : (is : List ℕ) → identifiers_in bs HeaderName x ≡ is → Matches p (or_else H N) (meaning bs (HeaderName ∷ E) x)
             go [] i =
                 subst (Matches p (or_else H N)) (sym (meaning_further bs x not_arguments HeaderName E refl i))
-                (unseen (meaning bs E x) (silent p h e numbered x none clear plain s s_opened (awaited v) whole (λ b a n k body. (let t : IsBoundBy b = is_there p h e numbered x none not_arguments clear plain s s_opened s_entry q.node opener seen.familiar.node b a n (k ∙ opener) in none_there p h e numbered x none not_arguments clear plain s s_opened s_entry q.node opener seen.familiar.node HeaderName i t.there (named_alone b body t)))) m)
+                (unseen (meaning bs E x) (silent p h e numbered x clear plain s s_opened (awaited v) whole (λ b a n k body. (let t : IsBoundBy b = is_there p h e numbered x not_arguments clear plain s s_opened s_entry q.node opener seen.familiar.node b a n (k ∙ opener) in none_there p h e numbered x not_arguments clear plain s s_opened s_entry q.node opener seen.familiar.node HeaderName i t.there (named_alone b body t)))) m)
             go (i ∷ is) j =
                 let (y, there, symbol) = own_seen i (subst (Among i) (sym j) (inl refl)) in
                 subst (Matches p (or_else H N)) (sym (meaning_here bs x not_arguments HeaderName E i is refl j))
                 (y, ap (λ z. or_else z N) there, all_seen y there (i ∷ is) (λ k a. subst (Among k) (sym j) a))
 
       function_shows : (k : EnvironmentKind) (n : IsOrdinary k) (ds : List Environment) → is_function_kind q.node.kind ≡ true → is_parameters (record { kind = k; maker = q.node.node_id }) ≡ true
-          → (Matches p N (meaning bs E x) → scopes.Rest p h e numbered x none not_arguments clear plain s s_opened s_entry q.node opener seen.familiar.node whole k n N (ds ++ E)) → (s.in_header ≡ true → HeaderRest k ds)
+          → (Matches p N (meaning bs E x) → scopes.Rest p h e numbered x not_arguments clear plain s s_opened s_entry q.node opener seen.familiar.node whole k n N (ds ++ E)) → (s.in_header ≡ true → HeaderRest k ds)
           → Shows (s ∷ q.chain) (cond (not (is_outside_body c.node) && has_parameter_expressions q.node) (record { kind = environment.Body; maker = q.node.node_id } ∷ []) [] ++ (record { kind = k; maker = q.node.node_id } ∷ ds))
       function_shows k n ds f parameters rest header_rest =
           seen_by (cond (not (is_outside_body c.node) && has_parameter_expressions q.node) (record { kind = environment.Body; maker = q.node.node_id } ∷ []) [] ++ (record { kind = k; maker = q.node.node_id } ∷ ds)) (λ last m.
           subst (λ es. Matches p (or_else (get final.bindings s.number x) N) (meaning bs es x)) (reassociated (not (is_outside_body c.node) && has_parameter_expressions q.node))
-          (function p h e numbered x none not_arguments clear plain s s_opened s_entry q.node opener seen.familiar.node whole k n N
+          (function p h e numbered x not_arguments clear plain s s_opened s_entry q.node opener seen.familiar.node whole k n N
           (not (is_outside_body c.node) && has_parameter_expressions q.node) (ds ++ E) (absent (is_outside_body c.node) refl last) (rest m)))
           (λ v fits m. subst (λ t. Matches p (or_else H N) (meaning bs ((cond (not t && has_parameter_expressions q.node) (record { kind = environment.Body; maker = q.node.node_id } ∷ []) [] ++ (record { kind = k; maker = q.node.node_id } ∷ ds)) ++ E) x)) (sym (list_outside (list f v)))
           (from_header k n ds parameters v (fits (list f v)) (header_rest v) m))
@@ -416,7 +416,7 @@ module _ (p : Tree) (h : first_fault p ≡ None) (e : is_ecmascript p ≡ true) 
         go _ v (outer_chain i) = absurd (never (subst (λ a. is_inside a c.role ≡ false) w i))
         go _ v (inner_chain s i o j) =
             function_shows s o j v environment.Parameters (refl, refl, refl, refl) (record { kind = environment.OwnName; maker = q.node.node_id } ∷ []) (subst (λ a. is_function_kind a ≡ true) (sym w) refl) refl
-            (own_rest p h e numbered x none not_arguments clear plain s (s_opened s o j v) (s_entry s o j v) q.node o seen.familiar.node (whole s o j v) w N E) (λ u none m. own_header s o j v w u none m)
+            (own_rest p h e numbered x not_arguments clear plain s (s_opened s o j v) (s_entry s o j v) q.node o seen.familiar.node (whole s o j v) w N E) (λ u none m. own_header s o j v w u none m)
 
     arrow_case : q.node.kind ≡ kind.ArrowFunctionExpression → ChainOf q.node.kind c.role q.node q.chain c.chain → Shows c.chain (made_by kind.ArrowFunctionExpression q.node c.node)
     arrow_case w t = go c.chain refl t
@@ -425,14 +425,14 @@ module _ (p : Tree) (h : first_fault p ≡ None) (e : is_ecmascript p ≡ true) 
         go _ v (outer_chain i) = absurd (never (subst (λ a. is_inside a c.role ≡ false) w i))
         go _ v (inner_chain s i o j) =
             function_shows s o j v environment.ArrowParameters (refl, refl, refl, refl) [] (subst (λ a. is_function_kind a ≡ true) (sym w) refl) refl
-            (arrow_rest p h e numbered x none not_arguments clear plain s (s_opened s o j v) (s_entry s o j v) q.node o seen.familiar.node (whole s o j v) w N E) (λ u none m. arrow_header s o j v w u none m)
+            (arrow_rest p h e numbered x not_arguments clear plain s (s_opened s o j v) (s_entry s o j v) q.node o seen.familiar.node (whole s o j v) w N E) (λ u none m. arrow_header s o j v w u none m)
 
     -- the body of an `if` opens no scope, and no plain name is of its environment
     if_case : q.node.kind ≡ kind.IfStatement → ChainOf q.node.kind c.role q.node q.chain c.chain → Shows c.chain (made_by kind.IfStatement q.node c.node)
     if_case w t = by (is kind.Function c.node && is_statement c.node) refl
       where
         outer : (chain : List OpenScope) → ChainOf q.node.kind c.role q.node q.chain chain → Shows chain (record { kind = environment.IfBody; maker = c.node.node_id } ∷ [])
-        outer _ (outer_chain i) = λ j. subst (Matches p N) (sym (meaning_further bs x not_arguments (record { kind = environment.IfBody; maker = c.node.node_id }) E refl (unusual p h e numbered x none not_arguments clear plain c.node.node_id))) (agree j.1)
+        outer _ (outer_chain i) = λ j. subst (Matches p N) (sym (meaning_further bs x not_arguments (record { kind = environment.IfBody; maker = c.node.node_id }) E refl (unusual p h e numbered x not_arguments clear plain c.node.node_id))) (agree j.1)
         outer _ (inner_chain s i o j) = absurd (never (sym (subst (λ a. is_inside a c.role ≡ true) w i)))
 
         by : (b : Bool) → (is kind.Function c.node && is_statement c.node) ≡ b → Shows c.chain (cond b (record { kind = environment.IfBody; maker = c.node.node_id } ∷ []) [])
@@ -497,10 +497,10 @@ module _ (p : Tree) (h : first_fault p ≡ None) (e : is_ecmascript p ≡ true) 
 
       symbol_inside : NoOwn → Matches p N (meaning bs E x) → (j : ℕ) → Among j (identifiers_in bs Inside x) → (y : ℕ) × (N ≡ Some y) × (symbol_at (analysis_of p) j ≡ Some y)
       symbol_inside no_own m j a =
-          let here_is : IsHere Inside j = is_here p h e numbered x none not_arguments clear plain Inside j a in
+          let here_is : IsHere Inside j = is_here p h e numbered x not_arguments clear plain Inside j a in
           elim here_is.there [
             | inl v ↦ elim here_is.known [ inl k ↦ absurd (not_declared here_is.bind k v) | inr o ↦ absurd (no_own here_is.bind o v) ]
-            | inr also ↦ around here_is (class_here p h e numbered x none not_arguments clear plain Inside here_is.bind here_is.known also)
+            | inr also ↦ around here_is (class_here p h e numbered x not_arguments clear plain Inside here_is.bind here_is.known also)
           ]
         where
           around : (k : IsHere Inside j) → IsClassHere Inside k.bind → (y : ℕ) × (N ≡ Some y) × (symbol_at (analysis_of p) j ≡ Some y)
@@ -535,13 +535,13 @@ module _ (p : Tree) (h : first_fault p ≡ None) (e : is_ecmascript p ≡ true) 
         entry = (subst (AllInTable (table_of p)) chain seen_child.in_table).0.entry
 
         abbrev There : Type 0
-        There = scopes.IsBoundThere p h e numbered x none not_arguments clear plain s opened entry q.node o seen.familiar.node
+        There = scopes.IsBoundThere p h e numbered x not_arguments clear plain s opened entry q.node o seen.familiar.node
 
         there_inside : (v : There) → v.bind.environment ≡ Inside
-        there_inside v = environment_is p h e numbered x none not_arguments clear plain s opened entry q.node o seen.familiar.node v environment.Class (environment_kind_is v.bind.environment.kind environment.Class (subst (λ a. may_make a v.bind.environment.kind ≡ true) w v.makes))
+        there_inside v = environment_is p h e numbered x not_arguments clear plain s opened entry q.node o seen.familiar.node v environment.Class (environment_kind_is v.bind.environment.kind environment.Class (subst (λ a. may_make a v.bind.environment.kind ≡ true) w v.makes))
 
         unbound_there : (There → ⊥) → Answer ≡ None
-        unbound_there n = unanswered p h e numbered x none not_arguments clear plain s opened entry q.node o seen.familiar.node (not_taken p numbered q seen.entered open_body s opened o) n
+        unbound_there n = unanswered p h e numbered x not_arguments clear plain s opened entry q.node o seen.familiar.node (not_taken p numbered q seen.entered open_body s opened o) n
 
         of_class : (b : Bound) (k : OwnBound p h x b) → b.environment ≡ Inside → is kind.Function k.place.node ≡ false
         of_class b k v = go k.named_by.sort
@@ -550,20 +550,20 @@ module _ (p : Tree) (h : first_fault p ≡ None) (e : is_ecmascript p ≡ true) 
             go (inl z) = absurd (never (sym (ap (is_made_for environment.OwnName) z.1) ∙ ap (is_made_for environment.OwnName) v))
             go (inr z) = ap (λ i. same_kind i kind.Function) z.0
 
-        own_symbol_of : (i : ℕ) (k : IsHere Inside i) → OwnBound p h x k.bind → k.bind.environment ≡ Inside → HasSymbol p h e numbered x none clear plain s i
-        own_symbol_of i k own v = subst (HasSymbol p h e numbered x none clear plain s) k.identifier
-            (class_symbol p h e numbered x none clear plain s opened entry k.bind own (o ∙ sym (ap (λ z. z.maker) v) ∙ own_maker p h x k.bind own) (of_class k.bind own v))
+        own_symbol_of : (i : ℕ) (k : IsHere Inside i) → OwnBound p h x k.bind → k.bind.environment ≡ Inside → HasSymbol p h e numbered x clear plain s i
+        own_symbol_of i k own v = subst (HasSymbol p h e numbered x clear plain s) k.identifier
+            (class_symbol p h e numbered x clear plain s opened entry k.bind own (o ∙ sym (ap (λ z. z.maker) v) ∙ own_maker p h x k.bind own) (of_class k.bind own v))
 
         all_own_inside : (b : Bound) → OwnBound p h x b → b.environment ≡ Inside → (y : ℕ) → Answer ≡ Some y → (is : List ℕ) → ((j : ℕ) → Among j is → Among j (identifiers_in bs Inside x)) → AllAre p is y
         all_own_inside b own v y g [] f = tt
-        all_own_inside b own v y g (i ∷ is) f = (one (is_here p h e numbered x none not_arguments clear plain Inside i (f i (inl refl))), all_own_inside b own v y g is (λ j a. f j (inr a)))
+        all_own_inside b own v y g (i ∷ is) f = (one (is_here p h e numbered x not_arguments clear plain Inside i (f i (inl refl))), all_own_inside b own v y g is (λ j a. f j (inr a)))
           where
             one : IsHere Inside i → symbol_at (analysis_of p) i ≡ Some y
             one k = elim k.there [
-              | inr also ↦ absurd (not_both k.bind b (class_here p h e numbered x none not_arguments clear plain Inside k.bind k.known also) own v)
+              | inr also ↦ absurd (not_both k.bind b (class_here p h e numbered x not_arguments clear plain Inside k.bind k.known also) own v)
               | inl z ↦ elim k.known [
                 | inl known ↦ absurd (not_declared k.bind known z)
-                | inr other ↦ (let u : HasSymbol p h e numbered x none clear plain s i = own_symbol_of i k other z in u.is ∙ ap Some (some_is u.symbol y (sym u.bound ∙ g)))
+                | inr other ↦ (let u : HasSymbol p h e numbered x clear plain s i = own_symbol_of i k other z in u.is ∙ ap Some (some_is u.symbol y (sym u.bound ∙ g)))
               ]
             ]
 
@@ -571,16 +571,16 @@ module _ (p : Tree) (h : first_fault p ≡ None) (e : is_ecmascript p ≡ true) 
         class_shows m = go (identifiers_in bs Inside x) refl
           where
             around : Answer ≡ None → (n : Meaning) → Matches p N n → Matches p (or_else Answer N) n
-            around g n k = further p h e numbered x none not_arguments clear plain s opened entry q.node o seen.familiar.node N n g k
+            around g n k = further p h e numbered x not_arguments clear plain s opened entry q.node o seen.familiar.node N n g k
 
             by : (i : ℕ) (is : List ℕ) → identifiers_in bs Inside x ≡ i ∷ is → IsHere Inside i → Matches p (or_else Answer N) (meaning bs (Inside ∷ E) x)
             by i is v k = elim k.there [
-              | inr also ↦ (let declared : IsClassHere Inside k.bind = class_here p h e numbered x none not_arguments clear plain Inside k.bind k.known also in
+              | inr also ↦ (let declared : IsClassHere Inside k.bind = class_here p h e numbered x not_arguments clear plain Inside k.bind k.known also in
                   around (unbound_there (λ z. elim z.known [ inl known ↦ not_declared z.bind known (there_inside z) | inr own ↦ not_both k.bind z.bind declared own (there_inside z) ]))
                   (meaning bs (Inside ∷ E) x) (inside_shows (λ b own z. not_both k.bind b declared own z) m i is v))
               | inl z ↦ elim k.known [
                 | inl known ↦ absurd (not_declared k.bind known z)
-                | inr own ↦ (let u : HasSymbol p h e numbered x none clear plain s i = own_symbol_of i k own z in
+                | inr own ↦ (let u : HasSymbol p h e numbered x clear plain s i = own_symbol_of i k own z in
                     subst (Matches p (or_else Answer N)) (sym (meaning_here bs x not_arguments Inside E i is refl v))
                     (u.symbol, ap (λ t. or_else t N) u.bound, all_own_inside k.bind own z u.symbol u.bound (i ∷ is) (λ j a. subst (Among j) (sym v) a)))
               ]
@@ -588,8 +588,8 @@ module _ (p : Tree) (h : first_fault p ≡ None) (e : is_ecmascript p ≡ true) 
 
             go : (is : List ℕ) → identifiers_in bs Inside x ≡ is → Matches p (or_else Answer N) (meaning bs (Inside ∷ E) x)
             go [] v = subst (Matches p (or_else Answer N)) (sym (meaning_further bs x not_arguments Inside E refl v))
-                (around (unbound_there (λ z. none_there p h e numbered x none not_arguments clear plain s opened entry q.node o seen.familiar.node Inside v z (there_inside z))) (meaning bs E x) m)
-            go (i ∷ is) v = by i is v (is_here p h e numbered x none not_arguments clear plain Inside i (subst (Among i) (sym v) (inl refl)))
+                (around (unbound_there (λ z. none_there p h e numbered x not_arguments clear plain s opened entry q.node o seen.familiar.node Inside v z (there_inside z))) (meaning bs E x) m)
+            go (i ∷ is) v = by i is v (is_here p h e numbered x not_arguments clear plain Inside i (subst (Among i) (sym v) (inl refl)))
 
       class_round : (chain : List OpenScope) → c.chain ≡ chain → ChainOf q.node.kind c.role q.node q.chain chain → Shows chain (Inside ∷ [])
       class_round _ v (outer_chain i) = absurd (never (sym (ap not seen_child.familiar.undecorated) ∙ subst (λ a. is_inside a c.role ≡ false) w i))
@@ -658,13 +658,13 @@ module _ (p : Tree) (h : first_fault p ≡ None) (e : is_ecmascript p ≡ true) 
         no_clause k = ap (λ a. same_kind a kind.CatchClause) (body_kind q k)
 
         in_open : (u : Bool) → is_catch_body c ≡ u → is_catch_body q ≡ false → Agrees p x q → AgreesBy p x u c
-        in_open true w k a = round_child p h e numbered x none not_arguments clear plain q c a (seen_child.clausal.body w) path (clause_chain w) (under_clause w)
+        in_open true w k a = round_child p h e numbered x not_arguments clear plain q c a (seen_child.clausal.body w) path (clause_chain w) (under_clause w)
         in_open false w k a = λ i. subst (λ l. Matches p (nearest_symbol final es x c.chain) (meaning bs (environments c.node l) x)) (sym path)
             (by_kind q c a k seen seen_child path well heads no_identifier apart w q.node.kind refl t (subst (StandsInExpressions ws x c.node) path i))
 
         in_closed : (u : Bool) → is_catch_body c ≡ u → is_catch_body q ≡ true → AgreesRound p x q → AgreesBy p x u c
         in_closed true w k a = absurd (never (sym (under_clause w) ∙ no_clause k))
-        in_closed false w k a = body_agrees p h e numbered x none not_arguments clear plain q c a k seen seen_child path t
+        in_closed false w k a = body_agrees p h e numbered x not_arguments clear plain q c a k seen seen_child path t
 
         by : (u : Bool) → is_catch_body q ≡ u → AgreesBy p x u q → AgreesBy p x (is_catch_body c) c
         by true k a = in_closed (is_catch_body c) refl k a

@@ -27,7 +27,7 @@ use Rattle.semantic_model.proofs.lists.Members.{among_at}
 use Rattle.semantic_model.proofs.once.HeadersEndOnce.{IsEntered}
 use Rattle.semantic_model.proofs.once.ListedUnder.{tie_for, nth_tie}
 use Rattle.language_ties.specs.Agreement.{is_symbol, is_none, is_tied_as_bound, agrees}
-use Rattle.language_ties.specs.AgreeingNames.{IsPlainName, IsBoundOutsideWith, AgreesApart}
+use Rattle.language_ties.specs.AgreeingNames.{IsPlainName, AgreesApart}
 use Rattle.language_ties.specs.EcmaScript.{is_ecmascript}
 use Rattle.language_ties.specs.Environments.{environments}
 use Rattle.language_ties.specs.Meaning.{Meaning, unbound, of_object, bound, meaning}
@@ -126,7 +126,7 @@ module _ (p : Tree) where
       let one : is_symbol s (symbol_at (analysis_of p) i) ≡ true = ap (is_symbol s) k.0 ∙ elim (eqb_tells s s) [ inl e ↦ e.0 | inr e ↦ absurd (e.1 refl) ] in
       rw one (tied_to_all ids s k.1)
 
-  module _ (h : first_fault p ≡ None) (e : is_ecmascript p ≡ true) (numbered : IsNumbered p.root) (x : Name) (none : IsBoundOutsideWith p x) (not_arguments : bytes_eq x (codes "arguments") ≡ false) (clear : AllKeepClear x (declarations (events (steps p)))) (plain : IsPlainName p x) where
+  module _ (h : first_fault p ≡ None) (e : is_ecmascript p ≡ true) (numbered : IsNumbered p.root) (x : Name) (not_arguments : bytes_eq x (codes "arguments") ≡ false) (clear : AllKeepClear x (declarations (events (steps p)))) (plain : IsPlainName p x) where
     abbrev Fits : Option ℕ → Meaning → Type 0
     Fits o m = Matches p o m
 
@@ -165,6 +165,6 @@ module _ (p : Tree) where
     agrees_apart q a k n i =
         let agree : Fits (nearest_symbol (run start (events (steps p))) (events (steps p)) x q.chain) (meaning (bound_of p) (environments q.node q.path) x) =
         subst (λ b. AgreesBy p x b q) (no_body q k)
-        (each_at (AgreesAt p x) (steps p) (entering q) (agree_program p h e numbered x none not_arguments clear plain) a (not_identifier q k) i.0) i.1 in
+        (each_at (AgreesAt p x) (steps p) (entering q) (agree_program p h e numbered x not_arguments clear plain) a (not_identifier q k) i.0) i.1 in
         subst (λ y. agrees (analysis_of p) q.node.node_id (meaning (bound_of p) (environments q.node q.path) y) ≡ true) (sym n)
         (fits_agree q.node.node_id (nearest_symbol (run start (events (steps p))) (events (steps p)) x q.chain) (meaning (bound_of p) (environments q.node q.path) x) (tied_here q a k n) agree)

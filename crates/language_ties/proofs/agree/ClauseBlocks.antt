@@ -40,7 +40,7 @@ use Rattle.semantic_model.proofs.steps.TurnCases.{opening_case, ending_case, las
 use Rattle.walk_model.proofs.places.Shapes.{holds_below}
 use Rattle.binding_laws.proofs.CutSteps.{WillAwait}
 use Rattle.tangle_model.specs.Surroundings.{in_with_under}
-use Rattle.language_ties.specs.AgreeingNames.{IsPlainName, IsBoundOutsideWith, StandsInExpressions}
+use Rattle.language_ties.specs.AgreeingNames.{IsPlainName, StandsInExpressions}
 use Rattle.language_ties.specs.Bound.{Bound, is_bound_as, written}
 use Rattle.language_ties.specs.EcmaScript.{is_ecmascript}
 use Rattle.language_ties.specs.Environments.{Environment, same_environment_kind, is_made_for, is_outside_body, has_parameter_expressions, made_by, environments, innermost}
@@ -82,7 +82,7 @@ use Rattle.language_ties.proofs.agree.SeenPlaces.{IsSeen}
 never : true ≡ false → ⊥
 never h = absurd cc
 
-module _ (p : Tree) (h : first_fault p ≡ None) (e : is_ecmascript p ≡ true) (numbered : IsNumbered p.root) (x : Name) (none : IsBoundOutsideWith p x) (not_arguments : bytes_eq x (codes "arguments") ≡ false) (clear : AllKeepClear x (declarations (events (steps p)))) (plain : IsPlainName p x) where
+module _ (p : Tree) (h : first_fault p ≡ None) (e : is_ecmascript p ≡ true) (numbered : IsNumbered p.root) (x : Name) (not_arguments : bytes_eq x (codes "arguments") ≡ false) (clear : AllKeepClear x (declarations (events (steps p)))) (plain : IsPlainName p x) where
   abbrev es : List Event
   es = events (steps p)
 
@@ -134,8 +134,8 @@ module _ (p : Tree) (h : first_fault p ≡ None) (e : is_ecmascript p ≡ true) 
     block_agrees : (s : OpenScope) → s.opener ≡ q.node.node_id → s.in_header ≡ is_in_header q.node.kind c.role → c.chain ≡ s ∷ q.chain → Agrees p x c
     block_agrees s o header chain i =
         subst (λ n. Matches p n (meaning bs (environments c.node c.path) x)) (sym nearest) (subst (λ ds. Matches p (or_else (get final.bindings s.number x) R) (meaning bs ds x)) (sym block_environments)
-        (clause_block p h e numbered x none not_arguments clear plain s s_opened s_entry q.node o seen.familiar.node clause.parent clause.caught parent_found block
-        (of_clause p h e numbered x none plain q seen.entered closed clause s s_opened o) (taken_into p h e numbered x none plain q seen.entered closed clause s s_opened o) R Further (round_agrees i)))
+        (clause_block p h e numbered x not_arguments clear plain s s_opened s_entry q.node o seen.familiar.node clause.parent clause.caught parent_found block
+        (of_clause p h e numbered x plain q seen.entered closed clause s s_opened o) (taken_into p h e numbered x plain q seen.entered closed clause s s_opened o) R Further (round_agrees i)))
       where
         s_opened : IsOpened (openers (steps p)) s
         s_opened = (subst (AllOpened (openers (steps p))) chain seen_child.opened).0

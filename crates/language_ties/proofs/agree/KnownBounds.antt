@@ -8,7 +8,7 @@ use Rattle.semantic_tree.specs.declared.node.Node.{Node}
 use Rattle.semantic_model.specs.Entries.{Among}
 use Rattle.semantic_model.specs.Place as place
 use Rattle.semantic_model.specs.Step.{entering, steps}
-use Rattle.language_ties.specs.AgreeingNames.{is_declared_plainly, IsPlainName, IsBoundOutsideWith}
+use Rattle.language_ties.specs.AgreeingNames.{is_declared_plainly, IsPlainName}
 use Rattle.language_ties.specs.Bound.{Bound, is_bound_as, written}
 use Rattle.language_ties.specs.EcmaScript.{is_ecmascript}
 use Rattle.language_ties.specs.Environments.{is_made_for}
@@ -29,7 +29,7 @@ never x h = absurd cc
 never_both : true ≡ false → ⊥
 never_both h = absurd cc
 
-module _ (p : Tree) (h : first_fault p ≡ None) (e : is_ecmascript p ≡ true) (numbered : IsNumbered p.root) (x : Name) (none : IsBoundOutsideWith p x) (plain : IsPlainName p x) where
+module _ (p : Tree) (h : first_fault p ≡ None) (e : is_ecmascript p ≡ true) (numbered : IsNumbered p.root) (x : Name) (plain : IsPlainName p x) where
   abbrev ws : List Bound
   ws = written p.source_type (steps p)
 
@@ -43,7 +43,7 @@ module _ (p : Tree) (h : first_fault p ≡ None) (e : is_ecmascript p ≡ true) 
   pub known_bound : (b : Bound) → Among b ws → b.name ≡ x → is_bound_as bound.OwnName b ≡ false → KnownBound b
   known_bound b a n o =
       let one : is_declared_plainly b ≡ true = subst (λ t. (t || is_declared_plainly b) ≡ true) o (plain.each b a n) in
-      let placed : IsPlacedBound p b = placed_bound p h e numbered x none b a n one o in
+      let placed : IsPlacedBound p b = placed_bound p h e numbered x b a n one o in
       record { plainly = one; no_own = o; placed = placed; declares = declaration_of p h e numbered x b placed.by_node n }
 
   -- its scope is no clause's

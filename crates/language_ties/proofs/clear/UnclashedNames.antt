@@ -33,7 +33,7 @@ use Rattle.semantic_model.proofs.lists.Members.{among_left, among_right, among_c
 use Rattle.semantic_model.proofs.once.ListedUnder.{name_tells}
 use Rattle.walk_model.proofs.headers.NoStatements.{is_loose}
 use Rattle.program_laws.proofs.DeclaredNodes.{among_map, among_flat}
-use Rattle.language_ties.specs.AgreeingNames.{is_declared_plainly, IsPlainName, IsBoundOutsideWith}
+use Rattle.language_ties.specs.AgreeingNames.{is_declared_plainly, IsPlainName}
 use Rattle.language_ties.specs.Bound as language
 use Rattle.language_ties.specs.Bound.{Bound, bound_identifier, bound_here, bound_outward, bound_by_declarator, bound_by_declaration, bound_by_function, bound_by_class, bound_by_catch, bound_by_node, bound_at, is_bound_as, written}
 use Rattle.language_ties.specs.contracts.bound_as.BoundAs.{the_type as the_ways}
@@ -388,7 +388,7 @@ no_function b k h n = elim (cases_Bool (is_bound_as bound.Function b)) [
   | inl q ↦ (let s : b.sort ≡ bound.Function = same_true the_ways tt b.sort bound.Function q in absurd (never (sym h ∙ subst (λ w. is_bound_as k (record b { sort = w }) ≡ false) (sym s) n)))
 ]
 
-module _ (p : Tree) (h : first_fault p ≡ None) (e : is_ecmascript p ≡ true) (numbered : IsNumbered p.root) (x : Name) (none : IsBoundOutsideWith p x) (plain_name : IsPlainName p x) (no_clash : has_clash p x ≡ false) where
+module _ (p : Tree) (h : first_fault p ≡ None) (e : is_ecmascript p ≡ true) (numbered : IsNumbered p.root) (x : Name) (plain_name : IsPlainName p x) (no_clash : has_clash p x ≡ false) where
   abbrev ws : List Bound
   ws = written p.source_type (steps p)
 
@@ -413,7 +413,7 @@ module _ (p : Tree) (h : first_fault p ≡ None) (e : is_ecmascript p ≡ true) 
     bind : Bound
     among : Among bind ws
     named : bind.name ≡ x
-    known : KnownBound p h e numbered x none plain_name bind
+    known : KnownBound p h e numbered x plain_name bind
     same : known.declares.declaration ≡ d
 
   -- or by the expression that has it as its own name
@@ -425,9 +425,9 @@ module _ (p : Tree) (h : first_fault p ≡ None) (e : is_ecmascript p ≡ true) 
   explained : (d : Declaration) → Among d ds → d.naming.name ≡ x → IsExplained d ⊎ IsOwned d
   explained d a n =
       let (b, i, m, j) = each_identifier p.source_type x (λ k. (b : Bound) × Among b ws × (b.name ≡ x) × (b.identifier ≡ k)) p h e (λ b i m. (b, i, m, refl)) d a n in
-      go b i m j (any_bound p h e numbered x none plain_name b i m)
+      go b i m j (any_bound p h e numbered x plain_name b i m)
     where
-      go : (b : Bound) → Among b ws → b.name ≡ x → b.identifier ≡ identifier_of d → AnyBound p h e numbered x none plain_name b → IsExplained d ⊎ IsOwned d
+      go : (b : Bound) → Among b ws → b.name ≡ x → b.identifier ≡ identifier_of d → AnyBound p h e numbered x plain_name b → IsExplained d ⊎ IsOwned d
       go b i m j (inl k) = inl (record { bind = b; among = i; named = m; known = k; same = same_declaration k.declares.declaration d ds k.declares.among a (k.declares.identifier ∙ j) (declared_once p (identifier_of k.declares.declaration) h numbered) })
       go b i m j (inr o) = inr (record { bind = b; owned = o; same = same_declaration o.declaration d ds o.among a (o.identifier ∙ j) (declared_once p (identifier_of o.declaration) h numbered) })
 
@@ -449,7 +449,7 @@ module _ (p : Tree) (h : first_fault p ≡ None) (e : is_ecmascript p ≡ true) 
 
   -- so does the one whose scope it passes
   passes_it : (d : Declaration) (v : IsExplained d) → v.known.declares.declaration.how ≡ hoisted → (n : ℕ) → contains (map (λ s. s.number) v.known.declares.declaration.route.passed) n ≡ true
-      → (b : Bound) (k : IsDeclared p h e numbered x none plain_name b) → IsMade p h e numbered x none plain_name b → k.declaration.route.target.number ≡ n → Passes v.bind b
+      → (b : Bound) (k : IsDeclared p h e numbered x plain_name b) → IsMade p h e numbered x plain_name b → k.declaration.route.target.number ≡ n → Passes v.bind b
   passes_it d v how n i b k m t =
       let q : Place = v.known.declares.place in
       let there : Among (entering q) (steps p) = v.known.declares.entered in
@@ -459,7 +459,7 @@ module _ (p : Tree) (h : first_fault p ≡ None) (e : is_ecmascript p ≡ true) 
       let (s, at, number) = scope_of_number v.known.declares.declaration.route.passed n i in
       let before : Among s (passed_before is_var q.chain) = route_passes q.chain s (subst (λ r. Among s r.passed) variable.route at) in
       let known : IsKnown q = each_at KnownAt (steps p) (entering q) (known_program p h e) there in
-      let round : map maker_of_scope q.chain ≡ makers (environments q.node q.path) = known.round (none q there v.bind v.known.declares.binds v.named) in
+      let round : map maker_of_scope q.chain ≡ makers (environments q.node q.path) = known.round in
       let passing : IsPassed (environments q.node q.path) s = passes_scope q.chain q.node q.path s round before in
       let takes : (takes_variables passing.passes ≡ false) × Among passing.passes (environments q.node q.path) = passed_takes_none (environments q.node q.path) passing.passes passing.among in
       let opened : AllOpened (openers (steps p)) q.chain = each_at (IsPlaceOpened (openers (steps p))) (steps p) (entering q) (places_opened p) there in
@@ -483,8 +483,8 @@ module _ (p : Tree) (h : first_fault p ≡ None) (e : is_ecmascript p ≡ true) 
   -- a `var` passes no scope that binds the name
   passes_none : (d c : Declaration) (v : IsExplained d) (w : IsExplained c) → v.known.declares.declaration.how ≡ hoisted → (n : ℕ) → contains (map (λ s. s.number) v.known.declares.declaration.route.passed) n ≡ true → w.known.declares.declaration.route.target.number ≡ n → ⊥
   passes_none d c v w how n i t =
-      let any : AnyBound p h e numbered x none plain_name w.bind = inl w.known in
-      let passing : Passes v.bind w.bind = passes_it d v how n i w.bind (is_declared p h e numbered x none plain_name w.bind any) (is_made p h e numbered x none plain_name w.bind any) (ap (λ z. z.route.target.number) (declared_known p h e numbered x none plain_name w.bind w.known) ∙ t) in
+      let any : AnyBound p h e numbered x plain_name w.bind = inl w.known in
+      let passing : Passes v.bind w.bind = passes_it d v how n i w.bind (is_declared p h e numbered x plain_name w.bind any) (is_made p h e numbered x plain_name w.bind any) (ap (λ z. z.route.target.number) (declared_known p h e numbered x plain_name w.bind w.known) ∙ t) in
       let r : Place = w.known.declares.place in
       let familiar : IsFamiliar (node_at p) r = familiar_at r w.known.declares.entered in
       elim (lexical_or_taken p.source_type r familiar.parents familiar.rooted w.bind w.known.no_own r.node.kind refl w.known.declares.binds) [
@@ -498,9 +498,9 @@ module _ (p : Tree) (h : first_fault p ≡ None) (e : is_ecmascript p ≡ true) 
   -- nor that of an expression with that name
   passes_no_own : (d : Declaration) (v : IsExplained d) → v.known.declares.declaration.how ≡ hoisted → (n : ℕ) → contains (map (λ s. s.number) v.known.declares.declaration.route.passed) n ≡ true → (b : Bound) (o : OwnBound p h x b) → o.declaration.route.target.number ≡ n → ⊥
   passes_no_own d v how n i b o t =
-      let any : AnyBound p h e numbered x none plain_name b = inr o in
-      let passing : Passes v.bind b = passes_it d v how n i b (is_declared p h e numbered x none plain_name b any) (is_made p h e numbered x none plain_name b any) (ap (λ z. z.route.target.number) (declared_own p h e numbered x none plain_name b o) ∙ t) in
-      own_kind p h e numbered x none plain_name b o (unnamed b.environment passing.scoped) passing.no_class
+      let any : AnyBound p h e numbered x plain_name b = inr o in
+      let passing : Passes v.bind b = passes_it d v how n i b (is_declared p h e numbered x plain_name b any) (is_made p h e numbered x plain_name b any) (ap (λ z. z.route.target.number) (declared_own p h e numbered x plain_name b o) ∙ t) in
+      own_kind p h e numbered x plain_name b o (unnamed b.environment passing.scoped) passing.no_class
     where
       unnamed : (c : Environment) → has_scope c ≡ true → is_made_for environment.OwnName c ≡ false
       unnamed c k = elim (cases_Bool (is_made_for environment.OwnName c)) [
@@ -544,15 +544,15 @@ module _ (p : Tree) (h : first_fault p ≡ None) (e : is_ecmascript p ≡ true) 
       let openers_are : Some w.known.declares.declaration.route.target.opener ≡ Some v.known.declares.declaration.route.target.opener = sym w.known.declares.opened ∙ ap (slice_get (openers (steps p))) number ∙ v.known.declares.opened in
       let maker : w.bind.environment.maker ≡ k.bind.environment.maker =
       sym w.known.declares.maker ∙ some_is w.known.declares.declaration.route.target.opener v.known.declares.declaration.route.target.opener openers_are ∙ v.known.declares.maker ∙ ap (λ z. z.maker) environment_is in
-      let first : v.bind.identifier ≡ k.bind.identifier = caught_once p h e numbered x none k.bind v.bind k.among v.among k.named v.named k.caught (ap (λ z. z.maker) environment_is) in
-      let second : w.bind.identifier ≡ k.bind.identifier = caught_once p h e numbered x none k.bind w.bind k.among w.among k.named w.named k.caught maker in
+      let first : v.bind.identifier ≡ k.bind.identifier = caught_once p h e numbered x k.bind v.bind k.among v.among k.named v.named k.caught (ap (λ z. z.maker) environment_is) in
+      let second : w.bind.identifier ≡ k.bind.identifier = caught_once p h e numbered x k.bind w.bind k.among w.among k.named w.named k.caught maker in
       differs (ap identifier_of (sym v.same) ∙ v.known.declares.identifier ∙ first ∙ sym second ∙ sym w.known.declares.identifier ∙ ap identifier_of w.same)
   caught_apart d c v w differs k (inr body) =
       let q : Place = v.known.declares.place in
       let (y, found, clause, maker) = clause_of q v.known.declares.entered k.of_parameter in
       let binds : Among v.bind (bound_by_node kind.CatchParameter p.source_type q.node q.path) = subst (λ i. Among v.bind (bound_by_node i p.source_type q.node q.path)) k.of_parameter v.known.declares.binds in
       let n : ℕ = v.known.declares.declaration.route.target.number in
-      let t : IsTakenBy p w.bind n = taken_by p h e numbered x none plain_name w.bind (inl w.known) n (ap (λ z. z.route.target.body) (declared_known p h e numbered x none plain_name w.bind w.known) ∙ body) in
+      let t : IsTakenBy p w.bind n = taken_by p h e numbered x plain_name w.bind (inl w.known) n (ap (λ z. z.route.target.body) (declared_known p h e numbered x plain_name w.bind w.known) ∙ body) in
       let opener : v.known.declares.declaration.route.target.opener ≡ y.node_id = v.known.declares.maker ∙ ap (λ z. z.maker) (catch_environment p.source_type q.node q.path v.bind binds) ∙ maker in
       let node : t.place.node.node_id ≡ y.node_id = some_is t.place.node.node_id y.node_id (sym t.opened ∙ v.known.declares.opened ∙ ap Some opener) in
       let same : t.place.node ≡ y = some_is t.place.node y (sym (familiar_at t.place t.entered).node ∙ ap (node_at p) node ∙ found) in
@@ -592,7 +592,7 @@ module _ (p : Tree) (h : first_fault p ≡ None) (e : is_ecmascript p ≡ true) 
       let q : Place = v.known.declares.place in
       let variable : IsVariable q v.known.declares.declaration = hoisted_is q v.known.declares.declaration v.known.declares.told how in
       let passes : contains (map (λ s. s.number) (outward_to is_var q.chain).passed) n ≡ true = subst (λ r. contains (map (λ s. s.number) r.passed) n ≡ true) variable.route i in
-      let further : contains (map (λ s. s.number) (outward_to is_var q.chain).passed) w.known.declares.declaration.route.target.number ≡ true = clause_passed p h e numbered x none plain_name w.bind w.known n t q v.known.declares.entered passes in
+      let further : contains (map (λ s. s.number) (outward_to is_var q.chain).passed) w.known.declares.declaration.route.target.number ≡ true = clause_passed p h e numbered x plain_name w.bind w.known n t q v.known.declares.entered passes in
       passes_none d c v w how w.known.declares.declaration.route.target.number (subst (λ r. contains (map (λ s. s.number) r.passed) w.known.declares.declaration.route.target.number ≡ true) (sym variable.route) further) refl
 
   keeps_clear : (d c : Declaration) → IsExplained d → IsExplained c → (identifier_of d ≡ identifier_of c → ⊥) → KeepsClear d c

@@ -35,14 +35,13 @@ use Rattle.semantic_model.proofs.form.Shape.{has_form}
 use Rattle.semantic_model.proofs.lists.Growth.{start_is_sound}
 use Rattle.semantic_model.proofs.once.ListedUnder.{name_tells}
 use Rattle.walk_model.proofs.headers.Headed.{awaiting_past, match_among}
-use Rattle.tangle_model.specs.Surroundings.{in_with_under}
 use Rattle.binding_laws.specs.SeenDeclarations.{is_own_name, stands_before_body, is_before_body, seen_alone, with_declaration, bound_by_all}
 use Rattle.binding_laws.proofs.CutEvents.{IsBefore, Cut, no_end, ended, not_yet}
 use Rattle.binding_laws.proofs.CutSteps.{WillAwait, cut_program}
 use Rattle.binding_laws.proofs.HeaderFold.{IsCutAt, cut_at, header_start}
 use Rattle.binding_laws.proofs.Matched.{IsMatchedStep, AreMatched, program_matched}
 use Rattle.binding_laws.proofs.SymbolsAtNodes.{symbols_are_at_nodes}
-use Rattle.language_ties.specs.AgreeingNames.{IsPlainName, IsBoundOutsideWith}
+use Rattle.language_ties.specs.AgreeingNames.{IsPlainName}
 use Rattle.language_ties.specs.Bound.{Bound, bound_by_node, is_bound_as, written}
 use Rattle.language_ties.specs.EcmaScript.{is_ecmascript}
 use Rattle.language_ties.specs.Environments.{Environment, same_environment_kind, is_made_for, has_parameter_expressions, environments, innermost, takes_variables, first_taking, environment_or}
@@ -134,7 +133,7 @@ no_identifier s q b a = go (same_kind q.node.kind kind.BindingIdentifier) refl
     go false e = e
     go true e = absurd (subst (λ k. Among b (bound_by_node k s q.node q.path)) (kind_is q.node.kind kind.BindingIdentifier e) a)
 
-module _ (p : Tree) (h : first_fault p ≡ None) (e : is_ecmascript p ≡ true) (numbered : IsNumbered p.root) (x : Name) (none : IsBoundOutsideWith p x) (clear : AllKeepClear x (declarations (events (steps p)))) (plain : IsPlainName p x) where
+module _ (p : Tree) (h : first_fault p ≡ None) (e : is_ecmascript p ≡ true) (numbered : IsNumbered p.root) (x : Name) (clear : AllKeepClear x (declarations (events (steps p)))) (plain : IsPlainName p x) where
   abbrev es : List Event
   es = events (steps p)
 
@@ -145,17 +144,16 @@ module _ (p : Tree) (h : first_fault p ≡ None) (e : is_ecmascript p ≡ true) 
   ws = written p.source_type (steps p)
 
   abbrev Known : Bound → Type 0
-  Known b = KnownBound p h e numbered x none plain b
+  Known b = KnownBound p h e numbered x plain b
 
   abbrev Any : Bound → Type 0
-  Any b = AnyBound p h e numbered x none plain b
+  Any b = AnyBound p h e numbered x plain b
 
   -- the scope where its declaration ends, with its environment
   side_of : (b : Bound) → b.name ≡ x → (k : Known b) → Side (node_at p) k.declares.declaration.route.target b.environment
   side_of b n k =
       let q : Place = k.declares.place in
-      let apart : in_with_under q.path ≡ false = none q k.declares.entered b k.declares.binds n in
-      let both : Sides (node_at p) q.chain (environments q.node q.path) = each_at (SidesAt (node_at p)) (steps p) (entering q) (sides_program p h e numbered) k.declares.entered (no_identifier p.source_type q b k.declares.binds) apart in
+      let both : Sides (node_at p) q.chain (environments q.node q.path) = each_at (SidesAt (node_at p)) (steps p) (entering q) (sides_program p h e numbered) k.declares.entered (no_identifier p.source_type q b k.declares.binds) in
       elim (by_kind p.source_type q k.declares.declaration b q.node.kind k.declares.unmoved k.declares.told k.declares.binds) [
         | inl w ↦ subst (λ d. Side (node_at p) k.declares.declaration.route.target d) (sym w.1) (subst (λ r. Side (node_at p) r.target (innermost (environments q.node q.path))) (sym w.0) both.inner)
         | inr w ↦ subst (λ d. Side (node_at p) k.declares.declaration.route.target d) (sym w.1)
@@ -167,8 +165,7 @@ module _ (p : Tree) (h : first_fault p ≡ None) (e : is_ecmascript p ≡ true) 
   caught_target : (b : Bound) → b.name ≡ x → (k : Known b) → is_made_for environment.Catch b.environment ≡ true → k.declares.declaration.route.target ≡ place.innermost k.declares.place.chain
   caught_target b n k caught =
       let q : Place = k.declares.place in
-      let apart : in_with_under q.path ≡ false = none q k.declares.entered b k.declares.binds n in
-      let both : Sides (node_at p) q.chain (environments q.node q.path) = each_at (SidesAt (node_at p)) (steps p) (entering q) (sides_program p h e numbered) k.declares.entered (no_identifier p.source_type q b k.declares.binds) apart in
+      let both : Sides (node_at p) q.chain (environments q.node q.path) = each_at (SidesAt (node_at p)) (steps p) (entering q) (sides_program p h e numbered) k.declares.entered (no_identifier p.source_type q b k.declares.binds) in
       elim (by_kind p.source_type q k.declares.declaration b q.node.kind k.declares.unmoved k.declares.told k.declares.binds) [
         | inl w ↦ ap (λ r. r.target) w.0
         | inr w ↦ ap (λ r. r.target) w.0 ∙ outward q.chain (environments q.node q.path) (first_with is_var q.chain) (first_taking (environments q.node q.path)) refl both.taking (subst (λ d. is_made_for environment.Catch d ≡ true) w.1 caught)
@@ -208,13 +205,13 @@ module _ (p : Tree) (h : first_fault p ≡ None) (e : is_ecmascript p ≡ true) 
     any : Any bind
     among : Among bind ws
     named : bind.name ≡ x
-    is_it : d ≡ (is_declared p h e numbered x none plain bind any).declaration
+    is_it : d ≡ (is_declared p h e numbered x plain bind any).declaration
 
   is_of : (d : Declaration) → Among d (declarations es) → d.naming.name ≡ x → IsOf d
   is_of d a name =
       let (b, w, n, i) = each_identifier p.source_type x (λ j. (b : Bound) × Among b ws × (b.name ≡ x) × (b.identifier ≡ j)) p h e (λ b w n. (b, w, n, refl)) d a name in
-      let k : Any b = any_bound p h e numbered x none plain b w n in
-      let v : IsDeclared p h e numbered x none plain b = is_declared p h e numbered x none plain b k in
+      let k : Any b = any_bound p h e numbered x plain b w n in
+      let v : IsDeclared p h e numbered x plain b = is_declared p h e numbered x plain b k in
       let one : identifier_of d ≡ identifier_of v.declaration = sym i ∙ sym v.identifier in
       record { bind = b; any = k; among = w; named = n; is_it = same_declaration d v.declaration (declarations es) a v.among one (declared_once p (identifier_of d) h numbered) }
 
@@ -268,17 +265,17 @@ module _ (p : Tree) (h : first_fault p ≡ None) (e : is_ecmascript p ≡ true) 
 
     same_maker : (d : Declaration) (w : IsOf d) → d.route.target.number ≡ s.number → w.bind.environment.maker ≡ s.opener
     same_maker d w q =
-        let v : IsDeclared p h e numbered x none plain w.bind = is_declared p h e numbered x none plain w.bind w.any in
+        let v : IsDeclared p h e numbered x plain w.bind = is_declared p h e numbered x plain w.bind w.any in
         let number : v.declaration.route.target.number ≡ s.number = sym (ap (λ z. z.route.target.number) w.is_it) ∙ q in
         sym v.maker ∙ some_is v.declaration.route.target.opener s.opener (sym v.opened ∙ ap (slice_get (openers (steps p))) number ∙ opened)
 
     outside_of : (d : Declaration) (w : IsOf d) → stands_before_body s.number d ≡ true → is_made_for environment.Body w.bind.environment ≡ false
     outside_of d w t = by w.any w.is_it
       where
-        by : (k : Any w.bind) → d ≡ (is_declared p h e numbered x none plain w.bind k).declaration → is_made_for environment.Body w.bind.environment ≡ false
+        by : (k : Any w.bind) → d ≡ (is_declared p h e numbered x plain w.bind k).declaration → is_made_for environment.Body w.bind.environment ≡ false
         by (inr o) q = own_outside w.bind o
         by (inl k) q =
-            let same : d ≡ k.declares.declaration = q ∙ declared_known p h e numbered x none plain w.bind k in
+            let same : d ≡ k.declares.declaration = q ∙ declared_known p h e numbered x plain w.bind k in
             let header : d.route.target.in_header ≡ true = go d.route.target.in_header (is_own_name d) (and_second (d.route.target.number == s.number) (d.route.target.in_header || is_own_name d) t) (ap is_own_name same ∙ k.declares.visible) in
             (side_of w.bind w.named k).outside (sym (ap (λ z. z.route.target.in_header) same) ∙ header)
           where
@@ -303,7 +300,7 @@ module _ (p : Tree) (h : first_fault p ≡ None) (e : is_ecmascript p ≡ true) 
       where
         now : (d : Declaration) (w : IsOf d) → IsNowIn (table_of p) x d s.number → d.route.target.number ≡ s.number
         now d w (inl q) = q
-        now d w (inr q) = absurd (whole w.bind (taken_by p h e numbered x none plain w.bind w.any s.number (ap (λ z. z.route.target.body) (sym w.is_it) ∙ q.0)))
+        now d w (inr q) = absurd (whole w.bind (taken_by p h e numbered x plain w.bind w.any s.number (ap (λ z. z.route.target.body) (sym w.is_it) ∙ q.0)))
 
         until_made : (m : Made) → Among m last.made → Among m final.made
         until_made m a = until_stays m start es s.number a
@@ -341,10 +338,10 @@ module _ (p : Tree) (h : first_fault p ≡ None) (e : is_ecmascript p ≡ true) 
         let number : d.route.target.number ≡ s.number = one_scope p numbered d.route.target s k.declares.opened opened (k.declares.maker ∙ sym q) in
         let header : d.route.target.in_header ≡ true = (side_of b n k).inside parameters expressions in
         let there : Among m last.made = made_before m made (counts d y number (rw header refl) k.declares.named) in
-        let here : get last.bindings s.number x ≡ Some y = at_target d y (bodiless p h e numbered x none plain b k (no_clause b.environment parameters)) number (shared.2.declared m there k.declares.named k.declares.visible) in
+        let here : get last.bindings s.number x ≡ Some y = at_target d y (bodiless p h e numbered x plain b k (no_clause b.environment parameters)) number (shared.2.declared m there k.declares.named k.declares.visible) in
         let symbol : symbol_at (analysis_of p) b.identifier ≡ Some y = symbol_is_at m made b.identifier k.declares.identifier in
-        let same : y ≡ symbol_of p h e numbered x none clear plain b k = some_is y (symbol_of p h e numbered x none clear plain b k) (sym symbol ∙ has_symbol p h e numbered x none clear plain b k) in
-        here ∙ ap Some same ∙ sym (answers p h e numbered x none clear plain b k (no_clause b.environment parameters) s opened q)
+        let same : y ≡ symbol_of p h e numbered x clear plain b k = some_is y (symbol_of p h e numbered x clear plain b k) (sym symbol ∙ has_symbol p h e numbered x clear plain b k) in
+        here ∙ ap Some same ∙ sym (answers p h e numbered x clear plain b k (no_clause b.environment parameters) s opened q)
 
     -- the header sees a function's own name, where the parameters don't bind it
     pub own_answers : (b : Bound) (k : OwnBound p h x b) → s.opener ≡ k.place.node.node_id → k.place.node.kind ≡ kind.Function → ((c : Bound) → Among c ws → c.name ≡ x → is_bound_as bound.OwnName c ≡ false → c.environment.maker ≡ s.opener → is_made_for environment.Body c.environment ≡ false → ⊥) → (y : ℕ) × (get last.bindings s.number x ≡ Some y) × (symbol_at (analysis_of p) b.identifier ≡ Some y)
@@ -364,10 +361,10 @@ module _ (p : Tree) (h : first_fault p ≡ None) (e : is_ecmascript p ≡ true) 
         or_own true v i = refl
         or_own false v i = i
 
-        by : {y : ℕ} (w : IsSeen y) (v : Any w.tells.bind) → w.made.declaration ≡ (is_declared p h e numbered x none plain w.tells.bind v).declaration → symbol_at (analysis_of p) b.identifier ≡ Some y
+        by : {y : ℕ} (w : IsSeen y) (v : Any w.tells.bind) → w.made.declaration ≡ (is_declared p h e numbered x plain w.tells.bind v).declaration → symbol_at (analysis_of p) b.identifier ≡ Some y
         by w (inl v) i = absurd (apart w.tells.bind w.tells.among w.tells.named v.no_own w.maker w.outside)
         by w (inr v) i =
-            let identifier : w.made.declaration.naming.identifier ≡ w.tells.bind.identifier = ap identifier_of i ∙ (is_declared p h e numbered x none plain w.tells.bind (inr v)).identifier in
+            let identifier : w.made.declaration.naming.identifier ≡ w.tells.bind.identifier = ap identifier_of i ∙ (is_declared p h e numbered x plain w.tells.bind (inr v)).identifier in
             let same : w.tells.bind.identifier ≡ b.identifier = one_name p h e numbered x w.tells.bind b v k (sym (own_maker p h x w.tells.bind v) ∙ w.maker ∙ q) f in
             symbol_is_at w.made w.among b.identifier (identifier ∙ same) ∙ ap Some w.symbol
 
@@ -396,10 +393,10 @@ module _ (p : Tree) (h : first_fault p ≡ None) (e : is_ecmascript p ≡ true) 
         let w : IsSeen y = seen y here in
         (y, here, by w w.tells.any w.tells.is_it)
       where
-        by : {y : ℕ} (w : IsSeen y) (v : Any w.tells.bind) → w.made.declaration ≡ (is_declared p h e numbered x none plain w.tells.bind v).declaration → symbol_at (analysis_of p) b.identifier ≡ Some y
+        by : {y : ℕ} (w : IsSeen y) (v : Any w.tells.bind) → w.made.declaration ≡ (is_declared p h e numbered x plain w.tells.bind v).declaration → symbol_at (analysis_of p) b.identifier ≡ Some y
         by w (inr v) j = absurd (no_own w.tells.bind v w.maker)
         by w (inl v) j =
-            let identifier : w.made.declaration.naming.identifier ≡ w.tells.bind.identifier = ap identifier_of j ∙ (is_declared p h e numbered x none plain w.tells.bind (inl v)).identifier in
+            let identifier : w.made.declaration.naming.identifier ≡ w.tells.bind.identifier = ap identifier_of j ∙ (is_declared p h e numbered x plain w.tells.bind (inl v)).identifier in
             let both : HaveOneSymbol p b w.tells.bind = one_symbol p h e numbered x (share_symbols p h e x clear) b w.tells.bind k.placed.by_node v.placed.by_node n w.tells.named (sym q ∙ sym w.maker) in
             let same : both.symbol ≡ w.made.symbol = some_is both.symbol w.made.symbol (sym both.second ∙ symbol_is_at w.made w.among w.tells.bind.identifier identifier) in
             both.first ∙ ap Some (same ∙ w.symbol)

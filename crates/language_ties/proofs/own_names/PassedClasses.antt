@@ -5,11 +5,10 @@ use Rattle.semantic_syntax.proofs.Truth.{and_first, and_second}
 use Rattle.semantic_kinds.specs.declared.kind.AstType.{AstType}
 use Rattle.semantic_kinds.specs.declared.kind.AstType.TheVariants as kind
 use Rattle.semantic_kinds.specs.declared.role.Role.{Role}
-use Rattle.semantic_kinds.specs.declared.role.Role.TheVariants as role
 use Rattle.semantic_tree.specs.Faults.{first_fault}
 use Rattle.semantic_tree.specs.Forest.{Forest, nothing, tree}
 use Rattle.semantic_tree.specs.Tree.{Tree}
-use Rattle.semantic_tree.specs.Views.{is, is_child_in}
+use Rattle.semantic_tree.specs.Views.{is}
 use Rattle.semantic_tree.specs.declared.node.Node.{Node}
 use Rattle.semantic_model.specs.Binder.{is_statement}
 use Rattle.semantic_model.specs.Cursor.{on_entering}
@@ -22,7 +21,7 @@ use Rattle.semantic_model.proofs.steps.Turn.{Turn, turn_at}
 use Rattle.semantic_model.proofs.steps.TurnCases.{opening_case, ending_case, last_case}
 use Rattle.walk_model.proofs.headers.NoStatements.{is_loose, is_bound, asks_closed, is_closed, closed_by_table, closed_by_place, table_closes, place_closes, child_closed}
 use Rattle.walk_model.proofs.places.Shapes.{holds_below}
-use Rattle.language_ties.specs.Environments.{Environment, is_made_for, has_parameter_expressions, is_outside_body, made_by, environments, passed, takes_variables}
+use Rattle.language_ties.specs.Environments.{Environment, is_made_for, has_parameter_expressions, is_outside_body, is_body_of_with, made_by, environments, passed, takes_variables}
 use Rattle.language_ties.specs.declared.environment_kind.EnvironmentKind.TheVariants as environment
 
 -- what holds a node of a kind that holds statements holds them too, or ends the way of a `var`
@@ -114,6 +113,6 @@ passes_no_class child (x ∷ path) h l d a = go x.kind (h.0 l) (passes_no_class 
     go kind.ForInStatement i later b = either (record { kind = environment.Loop; maker = x.node_id }) refl b (later refl d)
     go kind.ForOfStatement i later b = either (record { kind = environment.Loop; maker = x.node_id }) refl b (later refl d)
     go kind.CatchClause i later b = either (record { kind = environment.Catch; maker = x.node_id }) refl b (later refl d)
-    go kind.WithStatement i later b = maybe (is_child_in role.Body x child) (record { kind = environment.Object; maker = x.node_id }) refl refl b (later refl d)
+    go kind.WithStatement i later b = maybe (is_body_of_with child) (record { kind = environment.Object; maker = x.node_id }) refl refl b (later refl d)
     go kind.Class i later b = absurd cc
     go _ i later b = later i d b

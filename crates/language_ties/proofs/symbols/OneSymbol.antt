@@ -151,7 +151,7 @@ module _ (p : Tree) (h : first_fault p ≡ None) (e : is_ecmascript p ≡ true) 
       let known : IsKnown c.place = known_at c.place c.entered in
       let strict : Strict p.source_type c.place = each_at (StrictAt p.source_type) (steps p) (entering c.place) (strict_program p h e) c.entered in
       let stays : StaysInBlock p.source_type c.place.node c.place.path = stays_in_block p.source_type c.place.node c.place.path k t c.no_leaving in
-      never (sym z ∙ stays_there p.source_type c.place known c.apart_from_with strict k stays))
+      never (sym z ∙ stays_there p.source_type c.place known strict k stays))
     where
       never : true ≡ false → ⊥
       never i = absurd cc
@@ -163,7 +163,7 @@ module _ (p : Tree) (h : first_fault p ≡ None) (e : is_ecmascript p ≡ true) 
       let known : IsKnown q = known_at q c.entered in
       let plain_place : IsPlainPlace q = plain_at q c.entered in
       let told : map told_by_declaration (declared_on_opening q own ++ declared_on_entering q) ≡ map told_by_bound (bound_by_node q.node.kind p.source_type q.node q.path) =
-      each_at (Declares p.source_type) (steps p) (entering q) (declarations_are_bound p h e) c.entered c.apart_from_with c.no_leaving in
+      each_at (Declares p.source_type) (steps p) (entering q) (declarations_are_bound p h e) c.entered c.no_leaving in
       let empty : declared_on_opening q own ≡ [] = none_inside p.source_type q own b q.node.kind known.ecmascript c.binds c.no_own_name in
       let (d, a, t) = told_too (declared_on_entering q) (bound_by_node q.node.kind p.source_type q.node q.path) (subst (λ os. map told_by_declaration (os ++ declared_on_entering q) ≡ map told_by_bound (bound_by_node q.node.kind p.source_type q.node q.path)) empty told) b c.binds in
       let stays : placed ds d ≡ d = placed_stays ds d.how d refl (declared_at (λ i. i.how ≡ moved → ⊥) (declared_on_entering q) d (unmoved b c) a) in

@@ -10,4 +10,4 @@ pub returns-clause-once : goal.returns-clause-once
 returns-clause-once c = λ p name h e numbered once. single_clear p name h e numbered once
 
 pub returns-clause-unclashed : goal.returns-clause-unclashed
-returns-clause-unclashed c = λ p name h e numbered outside plain no_clash. unclashed_clear p h e numbered name outside plain no_clash
+returns-clause-unclashed c = λ p name h e numbered plain no_clash. unclashed_clear p h e numbered name plain no_clash

@@ -8,8 +8,8 @@ use Rattle.language_ties.proofs.tangled.Untangled.{no_arguments, read_outside_wi
 use Rattle.language_ties.proofs.laws.untangled_names_agree.Goals as goal
 
 pub returns : goal.returns
-returns c = λ p name h e numbered marked untangled outside each no_clash.
+returns c = λ p name h e numbered marked untangled each no_clash.
     let plain : IsPlainName p name = plain_name p h e numbered name untangled each in
     nothing_differs p name (λ q a k n.
-    agrees_apart p h e numbered name outside (no_arguments p name untangled) (unclashed_clear p h e numbered name outside plain no_clash) plain q a k n
+    agrees_apart p h e numbered name (no_arguments p name untangled) (unclashed_clear p h e numbered name plain no_clash) plain q a k n
     (read_outside_with p name untangled q a k n, in_expressions p h e marked name q a k))

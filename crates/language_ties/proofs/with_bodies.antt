@@ -1,0 +1,4 @@
+-- Bodies of `with`.
+pub mod BodyStatements
+pub mod WithPrograms
+pub mod WithRows
