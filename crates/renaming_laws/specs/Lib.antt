@@ -6,4 +6,4 @@ pub mod AskedNames
 pub mod LookedUp
 pub mod KeptSignatures
 pub mod NewNames
-pub mod BoundImports
+pub mod KeptImports
