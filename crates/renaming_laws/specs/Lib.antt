@@ -7,3 +7,4 @@ pub mod LookedUp
 pub mod KeptSignatures
 pub mod NewNames
 pub mod KeptImports
+pub mod KeptSoFar
