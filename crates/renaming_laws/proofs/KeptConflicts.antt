@@ -46,7 +46,7 @@ use Rattle.program_laws.specs.Remarked.{remarked}
 use Rattle.program_laws.specs.SameAnalysis.{conflicts_of, HaveSameAnalysis}
 use Rattle.program_laws.proofs.DeclaredNodes.{among_flat, IsOf, of_name, of_member}
 use Rattle.program_laws.proofs.EventMarks.{events_same}
-use Rattle.program_laws.proofs.NodeNames.{tied_nodes_have_names}
+use Rattle.program_laws.proofs.NodeNames.{tied_nodes_have_names, made_of_node}
 use Rattle.program_laws.proofs.StepMarks.{steps_same}
 use Rattle.program_laws.proofs.TableMarks.{same_unmarked}
 use Rattle.program_laws.proofs.TreeNodes.{nodes_from}

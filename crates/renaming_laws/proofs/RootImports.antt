@@ -1,8 +1,7 @@
 -- Roots that bind imports bind them alike.
-use Rattle.std.proofs.Common.{◌≡◌, ℕ, suc, ◌+◌, ◌≤◌, ◌==◌, List, [], ◌∷◌, Bool, true, false, not, ◌&&◌, cond, Option, Some, None, inl, inr, refl, sym, ap, subst, ◌∙◌, map, option_map, arith}
+use Rattle.std.proofs.Common.{◌≡◌, ◌↔◌, ℕ, suc, ◌+◌, ◌≤◌, ◌==◌, List, [], ◌∷◌, Bool, true, false, not, ◌&&◌, cond, Some, inl, inr, ◌⊎◌, refl, sym, ap, ◌∙◌, map, arith, eq-eqb}
 use Rattle.std.specs.Prelude.{slice_get, filter}
 use Rattle.std.proofs.lemmas.Bool.Decides.{eqb_tells}
-use Rattle.std.proofs.lemmas.Option.{slice_get-map}
 use Rattle.semantic_syntax.specs.SourceTypes.{is_module, is_typescript}
 use Rattle.semantic_syntax.specs.Tables.{Symbol, Bindings}
 use Rattle.semantic_tree.specs.Tree.{Tree}
@@ -17,8 +16,7 @@ use Rattle.semantic_model.proofs.bindings.Owned.{kept_program}
 use Rattle.semantic_model.proofs.bindings.Owners.{bound_times}
 use Rattle.semantic_model.proofs.fold.Orders.{HasForm}
 use Rattle.check_model.specs.Exports.{is_import_value}
-use Rattle.renaming_laws.specs.BoundImports.{symbols_at_top, BindsImports}
-use Rattle.renaming_laws.specs.KeptDeclarations.{declared_as}
+use Rattle.renaming_laws.specs.KeptImports.{symbols_at_top, KeepsImports}
 use Rattle.renaming_laws.proofs.SeenSymbols.{BoundAlike}
 
 -- ---- a number that stands in a list once
@@ -52,8 +50,29 @@ root_times n (b ∷ bs) = go (b.scope == 0) (bound_by bs 0) (root_times n bs)
     go true xs h = omega (arith, h)
     go false xs h = omega (arith, h)
 
-pub bound_once : (p : Tree) → HasForm p → (n : ℕ) → Among n (symbols_at_top p) → filter (λ o. o == n) (symbols_at_top p) ≡ n ∷ []
-bound_once p form n a = among_once n (symbols_at_top p) a (omega (arith, root_times n (run start (events (steps p))).bindings, (kept_program p form).once n))
+among_times : (n : ℕ) (xs : List ℕ) → Among n xs → 1 ≤ times n xs
+among_times n [] a = absurd a
+among_times n (x ∷ xs) (inl e) = let first : cond {A = ℕ} (x == n) 1 0 ≡ 1 = ap (λ t. cond t 1 0) (eq-eqb x n e) in omega (arith, first)
+among_times n (x ∷ xs) (inr a) = omega (arith, among_times n xs a)
+
+any_or_none : (n : ℕ) (xs : List ℕ) → Among n xs ⊎ (times n xs ≡ 0)
+any_or_none n [] = inr refl
+any_or_none n (x ∷ xs) = elim (eqb_tells x n) [
+  | inl k ↦ inl (inl k.1)
+  | inr k ↦ elim (any_or_none n xs) [ inl a ↦ inl (inr a) | inr e ↦ inr (let first : cond {A = ℕ} (x == n) 1 0 ≡ 0 = ap (λ b. cond b 1 0) k.0 in omega (arith, first, e)) ]
+]
+
+top_once : (p : Tree) → HasForm p → (n : ℕ) → times n (symbols_at_top p) ≤ 1
+top_once p form n = omega (arith, root_times n (run start (events (steps p))).bindings, (kept_program p form).once n)
+
+same_times : (p q : Tree) → HasForm p → HasForm q → (n : ℕ) → Among n (symbols_at_top p) ↔ Among n (symbols_at_top q) → filter (λ o. o == n) (symbols_at_top p) ≡ filter (λ o. o == n) (symbols_at_top q)
+same_times p q form form' n w = elim (any_or_none n (symbols_at_top p)) [
+  | inl a ↦ among_once n (symbols_at_top p) a (top_once p form n) ∙ sym (among_once n (symbols_at_top q) (w.0 a) (top_once q form' n))
+  | inr e ↦ elim (any_or_none n (symbols_at_top q)) [
+    | inl c ↦ absurd (omega (arith, e, among_times n (symbols_at_top p) (w.1 c)))
+    | inr f ↦ none_there n (symbols_at_top p) e ∙ sym (none_there n (symbols_at_top q) f)
+  ]
+]
 
 -- ---- both roots
 
@@ -61,27 +80,8 @@ alike_from : (ns ms : List ℕ) (n : ℕ) (ys : List Symbol) → ((r k : ℕ) (y
 alike_from ns ms n [] h = tt
 alike_from ns ms n (y ∷ ys) h = (λ e. h n 0 y (omega arith) refl e, alike_from ns ms (n + 1) ys (λ r k a e f g. h r (suc k) a (omega (arith, e)) f g))
 
--- the symbol of the renamed program
-same_flags : (ys zs : List Symbol) (r : ℕ) (y : Symbol) → map declared_as zs ≡ map declared_as ys → slice_get ys r ≡ Some y → (b : Symbol) × (slice_get zs r ≡ Some b) × (b.flags.bits ≡ y.flags.bits)
-same_flags ys zs r y e f =
-    by (slice_get zs r) refl (sym (slice_get-map declared_as zs r) ∙ ap (λ ls. slice_get ls r) e ∙ slice_get-map declared_as ys r ∙ ap (option_map declared_as) f)
-  where
-    flags_are : (b : Symbol) → ◌≡◌ {A = Option Symbol} (Some (declared_as b)) (Some (declared_as y)) → b.flags.bits ≡ y.flags.bits
-    flags_are b k = ap (λ (l : Symbol). l.flags.bits) (some b k)
-      where
-        some : (b : Symbol) → ◌≡◌ {A = Option Symbol} (Some (declared_as b)) (Some (declared_as y)) → declared_as b ≡ declared_as y
-        some b k = cc
-
-    by : (o : Option Symbol) → slice_get zs r ≡ o → option_map declared_as o ≡ Some (declared_as y) → (b : Symbol) × (slice_get zs r ≡ Some b) × (b.flags.bits ≡ y.flags.bits)
-    by None g k = absurd cc
-    by (Some b) g k = (b, g, flags_are b k)
-
-pub roots_alike : (p q : Tree) → HasForm p → HasForm q → p.source_type ≡ q.source_type → map declared_as (tables_of q).symbols ≡ map declared_as (tables_of p).symbols → BindsImports p → BindsImports q
-    → (not (is_typescript p.source_type) && is_module p.source_type) ≡ true → BoundAlike (symbols_at_top p) (symbols_at_top q) 0 (tables_of p).symbols
-roots_alike p q form form' same symbols binds binds' asked =
+pub roots_alike : (p q : Tree) → HasForm p → HasForm q → KeepsImports p q → (not (is_typescript p.source_type) && is_module p.source_type) ≡ true → BoundAlike (symbols_at_top p) (symbols_at_top q) 0 (tables_of p).symbols
+roots_alike p q form form' kept asked =
     alike_from (symbols_at_top p) (symbols_at_top q) 0 (tables_of p).symbols (λ r k y e f g.
     let at : k ≡ r = omega (arith, e) in
-    let there : slice_get (tables_of p).symbols r ≡ Some y = ap (slice_get (tables_of p).symbols) (sym at) ∙ f in
-    let (b, found, flags) = same_flags (tables_of p).symbols (tables_of q).symbols r y symbols there in
-    bound_once p form r (binds asked r y there g)
-    ∙ sym (bound_once q form' r (binds' (subst (λ t. (not (is_typescript t) && is_module t) ≡ true) same asked) r b found (ap is_import_value flags ∙ g))))
+    same_times p q form form' r (kept asked r y (ap (slice_get (tables_of p).symbols) (sym at) ∙ f) g))

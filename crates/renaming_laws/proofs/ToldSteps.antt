@@ -1,5 +1,5 @@
 -- What is told along the steps of a renamed program.
-use Rattle.std.proofs.Common.{◌≡◌, ℕ, zero, suc, ◌<◌, ◌==◌, List, [], ◌∷◌, ◌++◌, Bool, true, false, not, ◌&&◌, cond, Some, None, inl, inr, ◌⊎◌, refl, sym, ap, subst, subst₂, ◌∙◌, map, flat_map, length, drop, bytes_eq, arith}
+use Rattle.std.proofs.Common.{◌≡◌, ℕ, zero, suc, ◌<◌, ◌==◌, List, [], ◌∷◌, ◌++◌, Bool, true, false, not, ◌&&◌, cond, Some, None, Ok, inl, inr, ◌⊎◌, refl, sym, ap, subst, subst₂, ◌∙◌, map, flat_map, length, drop, take, bytes_eq, arith}
 use Rattle.std.specs.Prelude.{slice_get}
 use Rattle.std.proofs.lemmas.Bool.{eqb-true}
 use Rattle.std.proofs.lemmas.Bool.Decides.{eqb_tells}
@@ -31,17 +31,20 @@ use Rattle.program_laws.specs.SymbolNames.{IsNamed}
 use Rattle.program_laws.proofs.StepMarks.{remarked_steps}
 use Rattle.program_laws.proofs.TableMarks.{same_unmarked}
 use Rattle.program_laws.proofs.TiedNames.{declarations_have_names}
-use Rattle.rename_model.specs.Refusal.{first_fixed}
+use Rattle.rename_model.specs.Refusal.{first_fixed, rename}
 use Rattle.rename_model.specs.Renamed.{bears_name}
 use Rattle.rename_model.specs.Same.{Same}
 use Rattle.semantic_kinds.specs.declared.mark.Mark.TheVariants as mark
 use Rattle.rename_model.specs.WithName.{sheds}
+use Rattle.rename_model.proofs.Completeness.{no_fault_renamed}
+use Rattle.rename_model.proofs.Refusals.{ends_renamed, none_means_free}
 use Rattle.swapped_checks.specs.RuleWords.{is_rule_word}
 use Rattle.swapped_checks.specs.SwappedRows.{IsToldAgain, told_the_same, redeclared_by_name, AreToldAgain}
 use Rattle.swapped_checks.proofs.Pairwise.{told_append}
 use Rattle.swapped_checks.proofs.Spots.{Spots}
 use Rattle.renaming_laws.specs.InBlocks.{ShareFlags}
 use Rattle.renaming_laws.specs.KeptConflicts.{IsRenamedConflict, AreRenamedConflicts}
+use Rattle.renaming_laws.specs.KeptSoFar.{KeepsSoFar}
 use Rattle.renaming_laws.specs.NewNames.{instead}
 use Rattle.renaming_laws.proofs.FreshNames.{taken, shorter_differs}
 use Rattle.renaming_laws.proofs.KeptConflicts.{q, unmarked, walked, same_made, now_named, own_name, chosen_is, are_twins, told}
@@ -140,6 +143,11 @@ module _ (p : Tree) (faultless : first_fault p ≡ None) (numbered : IsNumbered 
       declaration_of : (r : ℕ) (a : Symbol) → slice_get (run start es).symbols r ≡ Some a → Declares now own (table_of p) (table_of Q) es fs so_twinned r a
       declaration_of r a g = declares_it now own (table_of p) (table_of Q) es fs so_twinned (λ m c. refl) r a g
 
+      name_so_far : (r : ℕ) (a b : Symbol) → slice_get (run start es).symbols r ≡ Some a → slice_get (run start fs).symbols r ≡ Some b → b.name ≡ cond (r == s) new a.name
+      name_so_far r a b g h =
+          let w : Declares now own (table_of p) (table_of Q) es fs so_twinned r a = declaration_of r a g in
+          w.told b h ∙ ap (λ c. cond c new w.made.declaration.naming.name) (chosen_is p faultless numbered s y there new free w.made (in_the_program w.made w.among) ∙ ap (λ n. n == s) w.symbol) ∙ ap (cond (r == s) new) (sym w.named)
+
       so_far : (z : Name) → ((m : Made) → Among m (made_of p) → length m.declaration.naming.name < length z) → SoFar s (bears_name (analysis_of p) s) z y.name new (run start es) (run start fs)
       so_far z short = record {
         declared = same_declared now own (table_of p) (table_of Q) es fs so_twinned;
@@ -149,10 +157,37 @@ module _ (p : Tree) (faultless : first_fault p ≡ None) (numbered : IsNumbered 
               ap (λ x. bytes_eq x z) w.named ∙ shorter_differs w.made.declaration.naming.name z (short w.made (in_the_program w.made w.among)),
             ));
         follow = follow_from s z y.name new 0 (run start es).symbols (run start fs).symbols (same_looks es fs now own (table_of p) (table_of Q) so_twinned) (λ r k a b i g h.
-            let w : Declares now own (table_of p) (table_of Q) es fs so_twinned k a = declaration_of k a g in
-            let it : w.made.symbol ≡ r = w.symbol ∙ omega (arith, i) in
-            w.told b h ∙ ap (λ c. cond c new w.made.declaration.naming.name) (chosen_is p faultless numbered s y there new free w.made (in_the_program w.made w.among) ∙ ap (λ n. n == s) it) ∙ ap (cond (r == s) new) (sym w.named));
+            let at : k ≡ r = omega (arith, i) in
+            name_so_far r a b (ap (slice_get (run start es).symbols) (sym at) ∙ g) (ap (slice_get (run start fs).symbols) (sym at) ∙ h));
       }
+
+    -- wherever the events stop
+    split : (n : ℕ) (es : List Event) → take n es ++ drop n es ≡ es
+    split zero es = refl
+    split (suc n) [] = refl
+    split (suc n) (e ∷ es) = ap (λ l. e ∷ l) (split n es)
+
+    taken_twins : (n : ℕ) (es fs : List Event) → TwinEvents es fs → TwinEvents (take n es) (take n fs)
+    taken_twins zero es fs t = tt
+    taken_twins (suc n) [] [] t = tt
+    taken_twins (suc n) [] (f ∷ fs) t = absurd t
+    taken_twins (suc n) (e ∷ es) [] t = absurd t
+    taken_twins (suc n) (e ∷ es) (f ∷ fs) t = (t.0, taken_twins n es fs t.1)
+
+    pub kept_so_far : (n : ℕ) → KeepsSoFar p Q s new n
+    kept_so_far n =
+        let old : List Event = take n (events (steps p)) in
+        let fresh : List Event = take n (events (steps Q)) in
+        let t : TwinEvents old fresh = taken_twins n (events (steps p)) (events (steps Q)) (subst (λ es. TwinEvents es (events (steps Q))) made_same whole.twins) in
+        let e : old ++ drop n (events (steps p)) ≡ events (steps U) = split n (events (steps p)) ∙ sym made_same in
+        let f : fresh ++ drop n (events (steps Q)) ≡ events (steps Q) = split n (events (steps Q)) in
+        let w : AreTwins old fresh now own (table_of p) (table_of Q) = so_twinned old (drop n (events (steps p))) fresh (drop n (events (steps Q))) e f t in
+        record {
+          symbols = sym (same_looks old fresh now own (table_of p) (table_of Q) w);
+          names = name_so_far old (drop n (events (steps p))) fresh (drop n (events (steps Q))) e f t;
+          declared = sym (same_declared now own (table_of p) (table_of Q) old fresh w);
+          conflicts = conflicts_so_far old (drop n (events (steps p))) fresh (drop n (events (steps Q))) e f t;
+        }
 
     -- ---- along the steps
 
@@ -234,3 +269,12 @@ module _ (p : Tree) (faultless : first_fault p ≡ None) (numbered : IsNumbered 
       all_along cs a v c x g h =
           let marks : HaveSameAnalysis U p = same_unmarked (sheds chosen) mark.Shorthand p refl in
           along [] [] start start refl refl tt [] cs (steps U) (steps Q) refl refl refl (walked p faultless numbered s y there new free) (marks.states ∙ sym states) a v c x g h
+
+module _ (p : Tree) (faultless : first_fault p ≡ None) (numbered : IsNumbered p.root) (s : ℕ) (y : Symbol) (there : slice_get (tables_of p).symbols s ≡ Some y) (new : Name) where
+  pub so_far_kept : (r : Tree) (n : ℕ) → rename p s new ≡ Ok r → namespace_states (steps r) ≡ namespace_states (steps p) → ShareFlags (made_of p) → ShareFlags (made_of r) → KeepsSoFar p r s new n
+  so_far_kept r n h e share others =
+      let (bad, none, same, is) = ends_renamed p s new r h in
+      let free : first_fixed (exported_names (steps p)) (bears_name (analysis_of p) s) (steps p) ≡ None = none_means_free p s none in
+      let formed : first_fault (Q p faultless numbered s y there new) ≡ None = (no_fault_renamed p faultless numbered s y there new bad free).0 in
+      subst (λ t. KeepsSoFar p t s new n) (sym is)
+      (kept_so_far p faultless numbered s y there new free formed (subst (Same p) is same) (subst (λ t. namespace_states (steps t) ≡ namespace_states (steps p)) is e) share (subst (λ t. ShareFlags (made_of t)) is others) n)

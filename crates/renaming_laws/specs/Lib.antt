@@ -6,4 +6,5 @@ pub mod AskedNames
 pub mod LookedUp
 pub mod KeptSignatures
 pub mod NewNames
-pub mod BoundImports
+pub mod KeptImports
+pub mod KeptSoFar

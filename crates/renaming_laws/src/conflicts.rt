@@ -14,6 +14,7 @@ ghost use Rattle.renaming_laws.specs.InBlocks.{ShareFlags};
 ghost use Rattle.swapped_checks.specs.SwappedPrograms.{holds_within};
 ghost use Rattle.renaming_laws.specs.LookedUp.{exports_neither};
 ghost use Rattle.renaming_laws.specs.KeptDeclarations.{KeepsDeclarations};
+ghost use Rattle.renaming_laws.specs.KeptSoFar.{KeepsSoFar};
 ghost use Rattle.renaming_laws.specs.KeptConflicts.{AreRenamedConflicts, with_other_name};
 
 /// A renaming keeps the conflicts of declarations: so many, in the same order, at the same places. Those of the symbol are told
@@ -47,6 +48,16 @@ pub fn a_renaming_keeps_declarations()
         → rename p s new ≡ Ok q → namespace_states (steps q) ≡ namespace_states (steps p)
         → ShareFlags (made_of p) → ShareFlags (made_of q)
         → KeepsDeclarations p q s new }
+{}
+
+/// Under the same conditions all this holds wherever the declarations stop: of what the first n events make there are the same symbols,
+/// of the same identifiers, and the same conflicts. That is what the rules of early errors see at each node.
+pub fn a_renaming_keeps_declarations_so_far()
+    ensures { (p q : Tree) (s n : ℕ) (y : Symbol) (new : Name) → first_fault p ≡ None
+        → IsNumbered p.root → slice_get (tables_of p).symbols s ≡ Some y
+        → rename p s new ≡ Ok q → namespace_states (steps q) ≡ namespace_states (steps p)
+        → ShareFlags (made_of p) → ShareFlags (made_of q)
+        → KeepsSoFar p q s new n }
 {}
 
 /// Where every node with the name of a symbol belongs to it, that name is neither `arguments` nor `eval`, and no node has the

@@ -1,5 +1,5 @@
--- Imports that a program binds at its top.
-use Rattle.std.specs.Prelude.{◌≡◌, ℕ, List, true, Some, not, ◌&&◌, map, slice_get}
+-- Imports that a renaming leaves bound at the top of a program.
+use Rattle.std.specs.Prelude.{◌≡◌, ◌↔◌, ℕ, List, true, Some, not, ◌&&◌, map, slice_get}
 use Rattle.semantic_syntax.specs.SourceTypes.{is_module, is_typescript}
 use Rattle.semantic_syntax.specs.Tables.{Symbol}
 use Rattle.semantic_tree.specs.Tree.{Tree}
@@ -16,6 +16,6 @@ use Rattle.check_model.specs.Exports.{is_import_value}
 abbrev pub symbols_at_top : Tree → List ℕ
 symbols_at_top p = map (λ b. b.1) (bound_by (run start (events (steps p))).bindings 0)
 
--- in a module in JavaScript a symbol that is an import and a value is bound by the root scope, as it is where imports stand at the top of a program
-abbrev pub BindsImports : Tree → Type 0
-BindsImports p = (not (is_typescript p.source_type) && is_module p.source_type) ≡ true → (r : ℕ) (y : Symbol) → slice_get (tables_of p).symbols r ≡ Some y → is_import_value y.flags.bits ≡ true → Among r (symbols_at_top p)
+-- of a module in JavaScript the root binds in both programs the same symbols that are imports and values
+abbrev pub KeepsImports : Tree → Tree → Type 0
+KeepsImports p q = (not (is_typescript p.source_type) && is_module p.source_type) ≡ true → (r : ℕ) (y : Symbol) → slice_get (tables_of p).symbols r ≡ Some y → is_import_value y.flags.bits ≡ true → Among r (symbols_at_top p) ↔ Among r (symbols_at_top q)
