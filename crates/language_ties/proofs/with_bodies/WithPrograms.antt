@@ -118,3 +118,42 @@ function_as_object =
     ∷ node role.Body kind.BlockStatement [] []
     ∷ [])
     ∷ [])
+
+-- `with (o) { function f() {} } f`
+abbrev pub function_leaves : Tree
+function_leaves =
+    program goal.Script lang.Js
+    (node role.Body kind.WithStatement []
+    (node role.Object kind.IdentifierReference (codes "o") []
+    ∷ node role.Body kind.BlockStatement []
+    (node role.Body kind.Function (codes "declaration")
+    (node role.Id kind.BindingIdentifier (codes "f") []
+    ∷ node role.Params kind.FormalParameters (codes "formal") []
+    ∷ node role.Body kind.FunctionBody [] []
+    ∷ [])
+    ∷ [])
+    ∷ [])
+    ∷ node role.Body kind.ExpressionStatement []
+    (node role.Expression kind.IdentifierReference (codes "f") []
+    ∷ [])
+    ∷ [])
+
+-- `with (o) if (1) function f() {} f`
+abbrev pub if_leaves : Tree
+if_leaves =
+    program goal.Script lang.Js
+    (node role.Body kind.WithStatement []
+    (node role.Object kind.IdentifierReference (codes "o") []
+    ∷ node role.Body kind.IfStatement []
+    (marked (mark.Decimal ∷ []) role.Test kind.NumericLiteral (codes "1") []
+    ∷ node role.Consequent kind.Function (codes "declaration")
+    (node role.Id kind.BindingIdentifier (codes "f") []
+    ∷ node role.Params kind.FormalParameters (codes "formal") []
+    ∷ node role.Body kind.FunctionBody [] []
+    ∷ [])
+    ∷ [])
+    ∷ [])
+    ∷ node role.Body kind.ExpressionStatement []
+    (node role.Expression kind.IdentifierReference (codes "f") []
+    ∷ [])
+    ∷ [])

@@ -9,7 +9,7 @@ use Rattle.language_ties.specs.Agreement.{differing}
 use Rattle.language_ties.specs.EcmaScript.{is_ecmascript}
 use Rattle.language_ties.specs.Meaning.{meanings, unbound, bound}
 use Rattle.language_ties.specs.declared.environment_kind.EnvironmentKind.TheVariants.{Global, OwnName}
-use Rattle.language_ties.proofs.with_bodies.WithPrograms.{let_and_parameter, class_within, function_within, variable_within, function_as_object}
+use Rattle.language_ties.proofs.with_bodies.WithPrograms.{let_and_parameter, class_within, function_within, variable_within, function_as_object, function_leaves, if_leaves}
 
 let_and_parameter_faultless : first_fault let_and_parameter ≡ None
 unfolding encode chars
@@ -77,3 +77,29 @@ function_as_object_meant = refl
 function_as_object_f_agrees : differing function_as_object (codes "f") ≡ []
 unfolding encode chars
 function_as_object_f_agrees = refl
+
+-- a function in a block has its variable outside of the `with`
+function_leaves_meant : meanings function_leaves ≡ record { node = 2; meaning = unbound } ∷ record { node = 9; meaning = bound (record { kind = Global; maker = 0 }) (5 ∷ []) } ∷ []
+unfolding encode chars
+function_leaves_meant = refl
+
+function_leaves_f_untangled : tangle_reasons function_leaves (codes "f") ≡ []
+unfolding encode chars
+function_leaves_f_untangled = refl
+
+function_leaves_f_agrees : differing function_leaves (codes "f") ≡ []
+unfolding encode chars
+function_leaves_f_agrees = refl
+
+-- so has one that is the body of an `if`
+if_leaves_meant : meanings if_leaves ≡ record { node = 2; meaning = unbound } ∷ record { node = 10; meaning = bound (record { kind = Global; maker = 0 }) (6 ∷ []) } ∷ []
+unfolding encode chars
+if_leaves_meant = refl
+
+if_leaves_f_untangled : tangle_reasons if_leaves (codes "f") ≡ []
+unfolding encode chars
+if_leaves_f_untangled = refl
+
+if_leaves_f_agrees : differing if_leaves (codes "f") ≡ []
+unfolding encode chars
+if_leaves_f_agrees = refl
