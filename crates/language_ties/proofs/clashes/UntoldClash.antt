@@ -19,7 +19,7 @@ use Rattle.language_ties.specs.Agreement.{differing}
 use Rattle.language_ties.specs.EarlyErrors.{has_clash}
 use Rattle.language_ties.specs.Meaning.{meanings, bound}
 use Rattle.language_ties.specs.declared.environment_kind.EnvironmentKind.TheVariants.{Global}
-use Rattle.language_ties.proofs.ProgramTrees.{marked, node, program}
+use Rattle.tangle_model.proofs.ProgramTrees.{marked, node, program}
 
 -- `{ async function f() {} var [f, f] = [] }`
 abbrev block_with_pattern : Forest
