@@ -10,7 +10,7 @@ use Rattle.semantic_model.specs.Entries.{Among}
 use Rattle.semantic_model.specs.Place.{Place}
 use Rattle.semantic_model.specs.Step.{entering, steps}
 use Rattle.tangle_model.specs.Surroundings.{in_with_under}
-use Rattle.language_ties.specs.Agreement.{use_agrees}
+use Rattle.language_ties.specs.Agreement.{use_agrees, use_agrees_past_objects}
 use Rattle.language_ties.specs.Bound.{Bound, is_bound_as, written}
 use Rattle.language_ties.specs.Environments.{Environment, is_made_for, has_parameter_expressions}
 use Rattle.language_ties.specs.Meaning.{use_at}
@@ -74,3 +74,8 @@ abbrev pub AgreesOutsideWith : Tree → Name → Type 0
 AgreesOutsideWith p name =
     (q : Place) → Among (entering q) (steps p) → is kind.IdentifierReference q.node ≡ true → q.node.text ≡ name → in_with_under q.path ≡ false
     → use_agrees (analysis_of p) (bound_of p) (use_at q) ≡ true
+
+-- so they do on each reference, if no object of a `with` has the name
+abbrev pub AgreesPastObjects : Tree → Name → Type 0
+AgreesPastObjects p name =
+    (q : Place) → Among (entering q) (steps p) → is kind.IdentifierReference q.node ≡ true → q.node.text ≡ name → use_agrees_past_objects (analysis_of p) (bound_of p) (use_at q) ≡ true

@@ -44,7 +44,7 @@ use Rattle.language_ties.specs.AgreeingNames.{IsPlainName, StandsInExpressions}
 use Rattle.language_ties.specs.Bound.{Bound, is_bound_as, written}
 use Rattle.language_ties.specs.EcmaScript.{is_ecmascript}
 use Rattle.language_ties.specs.Environments.{Environment, same_environment_kind, is_made_for, is_outside_body, has_parameter_expressions, made_by, environments, innermost}
-use Rattle.language_ties.specs.Meaning.{Meaning, bound, identifiers_in, meaning}
+use Rattle.language_ties.specs.Meaning.{Meaning, bound, identifiers_in, meaning_past_objects as meaning}
 use Rattle.language_ties.specs.Moved.{bound_of}
 use Rattle.language_ties.specs.NearestScopes.{nearest_symbol}
 use Rattle.language_ties.specs.Scopes.{Maker, maker_of_scope, maker_of_environment, has_scope, makers}
@@ -56,7 +56,7 @@ use Rattle.language_ties.proofs.EnvironmentsRound.{IsKnown, KnownAt, known_progr
 use Rattle.language_ties.proofs.agree.EnteredOnce.{entered_once}
 use Rattle.language_ties.proofs.agree.FamiliarPlaces.{stands_well, is_function_kind, AllKnown, IsFamiliar, FamiliarAt, familiar_program}
 use Rattle.language_ties.proofs.agree.FunctionKinds.{function_kinds, arrow_kinds, IsOrdinary}
-use Rattle.language_ties.proofs.agree.Identifiers.{identifier_here, meaning_further, meaning_object, meaning_here}
+use Rattle.language_ties.proofs.agree.Identifiers.{identifier_here, meaning_further, meaning_here}
 use Rattle.language_ties.proofs.agree.KnownBounds.{some_is, KnownBound}
 use Rattle.language_ties.proofs.agree.KnownNodes.{node_at}
 use Rattle.language_ties.proofs.agree.MadeEnvironments.{may_make, environment_kind_is, EndsAtProgram, innermost_among}

@@ -10,11 +10,10 @@ use Rattle.semantic_model.specs.Fold.{start}
 use Rattle.semantic_model.specs.Hoist.{run}
 use Rattle.semantic_model.specs.Place.{Place, OpenScope, outside}
 use Rattle.semantic_model.specs.Step.{Step, entering, opening, header_ending, closing, leaving, steps}
-use Rattle.tangle_model.specs.Surroundings.{in_with_under}
 use Rattle.language_ties.specs.AgreeingNames.{StandsInExpressions}
 use Rattle.language_ties.specs.Bound.{written}
 use Rattle.language_ties.specs.Environments.{Environment, environments}
-use Rattle.language_ties.specs.Meaning.{Meaning, unbound, of_object, bound, meaning}
+use Rattle.language_ties.specs.Meaning.{Meaning, unbound, of_object, bound, meaning_past_objects as meaning}
 use Rattle.language_ties.specs.Moved.{bound_of}
 use Rattle.language_ties.specs.NearestScopes.{nearest_symbol}
 
@@ -52,7 +51,7 @@ module _ (p : Tree) where
     AgreesBy false q = Agrees q
 
     abbrev pub AgreesAt : Step → Type 0
-    AgreesAt (entering q) = is kind.BindingIdentifier q.node ≡ false → in_with_under q.path ≡ false → AgreesBy (is_catch_body q) q
+    AgreesAt (entering q) = is kind.BindingIdentifier q.node ≡ false → AgreesBy (is_catch_body q) q
     AgreesAt (opening q o) = Unit {0}
     AgreesAt (header_ending q o) = Unit {0}
     AgreesAt (closing q o) = Unit {0}
