@@ -38,6 +38,8 @@ use Rattle.language_ties.proofs.agree.Agreeing.{agree_program}
 use Rattle.language_ties.proofs.agree.EnteredOnce.{entered_once}
 use Rattle.language_ties.proofs.agree.PlaceAgreement.{AllAre, Matches, AgreesBy, AgreesAt}
 use Rattle.language_ties.proofs.caught.CaughtBounds.{no_block}
+use Rattle.language_ties.proofs.moved.BlockMeanings.{as_language, expressed}
+use Rattle.language_ties.proofs.moved.Settled.{bound_as_settled}
 use Rattle.language_ties.proofs.nearest.NearestTies.{ReadAt, read_at, tied_nearest}
 use Rattle.language_ties.proofs.symbols.OneSymbol.{of_map, each_at}
 
@@ -163,8 +165,10 @@ module _ (p : Tree) where
 
     pub agrees_apart : AgreesApart p x
     agrees_apart q a k n i =
-        let agree : Fits (nearest_symbol (run start (events (steps p))) (events (steps p)) x q.chain) (meaning (bound_of p) (environments q.node q.path) x) =
+        let as_settled : Fits (nearest_symbol (run start (events (steps p))) (events (steps p)) x q.chain) (meaning (bound_as_settled p) (environments q.node q.path) x) =
         subst (λ b. AgreesBy p x b q) (no_body q k)
-        (each_at (AgreesAt p x) (steps p) (entering q) (agree_program p h e numbered x none not_arguments clear plain) a (not_identifier q k) i.0) i.1 in
+        (each_at (AgreesAt p x) (steps p) (entering q) (agree_program p h e numbered x none not_arguments clear plain) a (not_identifier q k) i.0) (expressed p x q.node q.path i.1) in
+        let agree : Fits (nearest_symbol (run start (events (steps p))) (events (steps p)) x q.chain) (meaning (bound_of p) (environments q.node q.path) x) =
+        as_language p h e numbered x none not_arguments plain q a (nearest_symbol (run start (events (steps p))) (events (steps p)) x q.chain) as_settled in
         subst (λ y. agrees (analysis_of p) q.node.node_id (meaning (bound_of p) (environments q.node q.path) y) ≡ true) (sym n)
         (fits_agree q.node.node_id (nearest_symbol (run start (events (steps p))) (events (steps p)) x q.chain) (meaning (bound_of p) (environments q.node q.path) x) (tied_here q a k n) agree)
