@@ -27,52 +27,48 @@ use Rattle.semantic_model.specs.Hoist.{run}
 use Rattle.semantic_model.specs.Inside.{is_inside, is_in_header}
 use Rattle.semantic_model.specs.Place as place
 use Rattle.semantic_model.specs.Place.{Place, OpenScope, outside, parent_holds}
-use Rattle.semantic_model.specs.Step.{Step, entering, opening, header_ending, closing, leaving, steps_below, steps, root_place}
-use Rattle.semantic_model.specs.Tie.{view, view_by, until_end_of}
-use Rattle.semantic_model.proofs.fold.BodyChains.{AllInTable, IsStepIn}
-use Rattle.semantic_model.proofs.fold.Orders.{table_of, steps_in}
+use Rattle.semantic_model.specs.Step.{Step, entering, leaving, steps_below, steps, root_place}
+use Rattle.semantic_model.specs.Tie.{view_by, until_end_of}
+use Rattle.semantic_model.proofs.fold.BodyChains.{AllInTable}
+use Rattle.semantic_model.proofs.fold.Orders.{table_of}
 use Rattle.semantic_model.proofs.form.Clauses.{kind_is}
 use Rattle.semantic_model.proofs.form.ParameterChains.{is_open_inside}
-use Rattle.semantic_model.proofs.form.Shape.{has_form}
 use Rattle.semantic_model.proofs.steps.EachStep.{EachOfTurn, each_left, each_of_node, each_of_turn, turn_of_each}
 use Rattle.semantic_model.proofs.steps.Turn.{Turn, turn_at}
 use Rattle.semantic_model.proofs.steps.TurnCases.{opening_case, ending_case, last_case}
 use Rattle.walk_model.proofs.places.Shapes.{holds_below}
 use Rattle.binding_laws.proofs.CutSteps.{WillAwait}
 use Rattle.language_ties.specs.AgreeingNames.{IsPlainName, StandsInExpressions}
-use Rattle.language_ties.specs.Bound.{Bound, is_bound_as, written}
+use Rattle.language_ties.specs.Bound.{Bound, is_bound_as}
 use Rattle.language_ties.specs.EcmaScript.{is_ecmascript}
 use Rattle.language_ties.specs.Environments.{Environment, same_environment_kind, is_made_for, is_outside_body, has_parameter_expressions, is_body_of_with, made_by, environments, innermost}
-use Rattle.language_ties.specs.Meaning.{Meaning, bound, identifiers_in, meaning_past_objects as meaning}
-use Rattle.language_ties.specs.Moved.{bound_of}
+use Rattle.language_ties.specs.Meaning.{Meaning, identifiers_in, meaning_past_objects as meaning}
 use Rattle.language_ties.specs.NearestScopes.{nearest_symbol}
 use Rattle.language_ties.specs.Scopes.{Maker, maker_of_scope, maker_of_environment, has_scope, makers}
 use Rattle.language_ties.specs.SharedSymbols.{AllKeepClear}
 use Rattle.language_ties.specs.declared.bound_as.BoundAs.TheVariants as way
 use Rattle.language_ties.specs.declared.environment_kind.EnvironmentKind.{EnvironmentKind}
 use Rattle.language_ties.specs.declared.environment_kind.EnvironmentKind.TheVariants as environment
-use Rattle.language_ties.proofs.EnvironmentsRound.{IsKnown, KnownAt, known_program}
 use Rattle.language_ties.proofs.agree.EnteredOnce.{entered_once}
-use Rattle.language_ties.proofs.agree.FamiliarPlaces.{stands_well, is_function_kind, AllKnown, IsFamiliar, FamiliarAt, familiar_program}
+use Rattle.language_ties.proofs.agree.FamiliarPlaces.{stands_well, is_function_kind, IsFamiliar, FamiliarAt, familiar_program}
 use Rattle.language_ties.proofs.agree.FunctionKinds.{function_kinds, arrow_kinds, IsOrdinary}
 use Rattle.language_ties.proofs.agree.Identifiers.{identifier_here, meaning_further, meaning_here}
 use Rattle.language_ties.proofs.agree.KnownBounds.{some_is, KnownBound}
 use Rattle.language_ties.proofs.agree.KnownNodes.{node_at}
 use Rattle.language_ties.proofs.agree.MadeEnvironments.{may_make, environment_kind_is, EndsAtProgram, innermost_among}
 use Rattle.language_ties.proofs.agree.PlainBounds.{no_class}
-use Rattle.language_ties.proofs.caught.BodyPlaces.{block_takes}
-use Rattle.language_ties.proofs.caught.CaughtBounds.{IsTakenBy, not_taken, no_block, of_clause, taken_into}
-use Rattle.language_ties.proofs.caught.ClausePlaces.{IsClauseBody, StandsInClause, IsClausal, ClausalAt, clausal_program, body_kind}
+use Rattle.language_ties.proofs.caught.CaughtBounds.{IsTakenBy, not_taken}
+use Rattle.language_ties.proofs.caught.ClausePlaces.{StandsInClause, body_kind}
 use Rattle.language_ties.proofs.headers.ChildChains.{ChainOf, outer_chain, inner_chain, OwnOf, own_of, chain_of}
 use Rattle.language_ties.proofs.headers.HeaderAnswers.{silent, answers_too, own_answers, caught_answers, caught_in_header, awaits}
 use Rattle.language_ties.proofs.headers.HeaderShape.{heads_parameters, tree_heads, header_list}
 use Rattle.language_ties.proofs.headers.Sides.{is_parameters}
+use Rattle.language_ties.proofs.moved.Settled.{settled_bounds, bound_as_settled}
 use Rattle.language_ties.proofs.own_names.AnyBounds.{AnyBound, any_bound}
 use Rattle.language_ties.proofs.own_names.OwnBounds.{IsOfExpression, OwnBound, own_maker}
 use Rattle.language_ties.proofs.own_names.OwnSymbols.{HasSymbol, class_symbol}
-use Rattle.language_ties.proofs.shared.HomesShared.{none_in_clause}
 use Rattle.language_ties.proofs.symbols.OneSymbol.{each_at}
-use Rattle.language_ties.proofs.symbols.ScopeOpeners.{openers, IsOpened, AllOpened, IsPlaceOpened, places_opened}
+use Rattle.language_ties.proofs.symbols.ScopeOpeners.{openers, IsOpened, AllOpened}
 use Rattle.language_ties.proofs.agree.ClauseBlocks.{body_agrees, round_child}
 use Rattle.language_ties.proofs.agree.PlaceAgreement.{outside_innermost, AllAre, Matches, Agrees, AgreesRound, AgreesBy, AgreesAt}
 use Rattle.language_ties.proofs.agree.ScopeAnswers as scopes
@@ -94,10 +90,10 @@ module _ (p : Tree) (h : first_fault p ≡ None) (e : is_ecmascript p ≡ true) 
   final = run start es
 
   abbrev ws : List Bound
-  ws = written p.source_type (steps p)
+  ws = settled_bounds p
 
   abbrev bs : List Bound
-  bs = bound_of p
+  bs = bound_as_settled p
 
   abbrev Known : Bound → Type 0
   Known b = KnownBound p h e numbered x plain b
@@ -165,7 +161,7 @@ module _ (p : Tree) (h : first_fault p ≡ None) (e : is_ecmascript p ≡ true) 
         where
           by : (t : Bool) → s.in_header ≡ t → Matches p (or_else (get (view_by s.in_header final es s.number).bindings s.number x) N) (meaning bs (ds ++ E) x)
           by false v = subst (λ b. Matches p (or_else (get (view_by b final es s.number).bindings s.number x) N) (meaning bs (ds ++ E) x)) (sym v) (last v (agree i.1))
-          by true v = subst (λ b. Matches p (or_else (get (view_by b final es s.number).bindings s.number x) N) (meaning bs (ds ++ E) x)) (sym v) (ends v i.0 (agree i.1))
+          by true v = subst (λ b. Matches p (or_else (get (view_by b final es s.number).bindings s.number x) N) (meaning bs (ds ++ E) x)) (sym v) (ends v (λ k b a n m. i.0 k b b.environment a n (inl refl) m) (agree i.1))
 
       -- where the header sees nothing
       unseen : (m : Meaning) → H ≡ None → Matches p N m → Matches p (or_else H N) m

@@ -38,6 +38,8 @@ use Rattle.language_ties.proofs.agree.Agreeing.{agree_program}
 use Rattle.language_ties.proofs.agree.EnteredOnce.{entered_once}
 use Rattle.language_ties.proofs.agree.PlaceAgreement.{AllAre, Matches, AgreesBy, AgreesAt}
 use Rattle.language_ties.proofs.caught.CaughtBounds.{no_block}
+use Rattle.language_ties.proofs.moved.BlockMeanings.{as_language, expressed}
+use Rattle.language_ties.proofs.moved.Settled.{bound_as_settled}
 use Rattle.language_ties.proofs.nearest.NearestTies.{ReadAt, read_at, tied_nearest}
 use Rattle.language_ties.proofs.symbols.OneSymbol.{of_map, each_at}
 use Rattle.language_ties.specs.Bound.{written}
@@ -166,9 +168,11 @@ module _ (p : Tree) where
     -- if no object of a `with` has the name
     pub agrees_past_objects : (q : Place) → Among (entering q) (steps p) → is kind.IdentifierReference q.node ≡ true → q.node.text ≡ x → StandsInExpressions (written p.source_type (steps p)) x q.node q.path → use_agrees_past_objects (analysis_of p) (bound_of p) (use_at q) ≡ true
     agrees_past_objects q a k n i =
-        let agree : Fits (nearest_symbol (run start (events (steps p))) (events (steps p)) x q.chain) (meaning_past_objects (bound_of p) (environments q.node q.path) x) =
+        let as_settled : Fits (nearest_symbol (run start (events (steps p))) (events (steps p)) x q.chain) (meaning_past_objects (bound_as_settled p) (environments q.node q.path) x) =
         subst (λ b. AgreesBy p x b q) (no_body q k)
-        (each_at (AgreesAt p x) (steps p) (entering q) (agree_program p h e numbered x not_arguments clear plain) a (not_identifier q k)) i in
+        (each_at (AgreesAt p x) (steps p) (entering q) (agree_program p h e numbered x not_arguments clear plain) a (not_identifier q k)) (expressed p x q.node q.path i) in
+        let agree : Fits (nearest_symbol (run start (events (steps p))) (events (steps p)) x q.chain) (meaning_past_objects (bound_of p) (environments q.node q.path) x) =
+        as_language p h e numbered x not_arguments plain q a (nearest_symbol (run start (events (steps p))) (events (steps p)) x q.chain) as_settled in
         subst (λ y. agrees (analysis_of p) q.node.node_id (meaning_past_objects (bound_of p) (environments q.node q.path) y) ≡ true) (sym n)
         (fits_agree q.node.node_id (nearest_symbol (run start (events (steps p))) (events (steps p)) x q.chain) (meaning_past_objects (bound_of p) (environments q.node q.path) x) (tied_here q a k n) agree)
 

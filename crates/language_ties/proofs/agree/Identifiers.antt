@@ -24,14 +24,14 @@ pub same_again : (e : Environment) → same_environment e e ≡ true
 same_again e = elim (eqb_tells e.maker e.maker) [ inl m ↦ rw (same_kind_again e.kind, m.0) refl | inr m ↦ absurd (m.1 refl) ]
 
 -- a variable of a block function may be barred; all else stays as it is bound
-moved_name : (ws : List Bound) (b : Bound) → (moved ws b).name ≡ b.name
+pub moved_name : (ws : List Bound) (b : Bound) → (moved ws b).name ≡ b.name
 moved_name ws b = go (is_bound_as way.Function b)
   where
     go : (t : Bool) → (cond t (record b { also = unless_barred ws b b.also }) b).name ≡ b.name
     go true = refl
     go false = refl
 
-moved_identifier : (ws : List Bound) (b : Bound) → (moved ws b).identifier ≡ b.identifier
+pub moved_identifier : (ws : List Bound) (b : Bound) → (moved ws b).identifier ≡ b.identifier
 moved_identifier ws b = go (is_bound_as way.Function b)
   where
     go : (t : Bool) → (cond t (record b { also = unless_barred ws b b.also }) b).identifier ≡ b.identifier

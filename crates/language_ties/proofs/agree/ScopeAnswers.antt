@@ -18,11 +18,10 @@ use Rattle.semantic_model.specs.Place.{Place, OpenScope}
 use Rattle.semantic_model.specs.Step.{entering, steps}
 use Rattle.semantic_model.proofs.fold.Orders.{table_of}
 use Rattle.language_ties.specs.AgreeingNames.{IsPlainName}
-use Rattle.language_ties.specs.Bound.{Bound, is_bound_as, written}
+use Rattle.language_ties.specs.Bound.{Bound, is_bound_as}
 use Rattle.language_ties.specs.EcmaScript.{is_ecmascript}
 use Rattle.language_ties.specs.Environments.{Environment, same_environment_kind, is_made_for, has_parameter_expressions}
 use Rattle.language_ties.specs.Meaning.{Meaning, identifiers_in, meaning_past_objects as meaning}
-use Rattle.language_ties.specs.Moved.{bound_of}
 use Rattle.language_ties.specs.SharedSymbols.{AllKeepClear}
 use Rattle.language_ties.specs.declared.bound_as.BoundAs.TheVariants as way
 use Rattle.language_ties.specs.declared.environment_kind.EnvironmentKind.{EnvironmentKind}
@@ -37,6 +36,7 @@ use Rattle.language_ties.proofs.agree.KnownNodes.{node_at}
 use Rattle.language_ties.proofs.agree.MadeEnvironments.{may_make, environment_kind_is}
 use Rattle.language_ties.proofs.agree.PlaceAgreement.{AllAre, Matches}
 use Rattle.language_ties.proofs.caught.CaughtBounds.{IsTakenBy}
+use Rattle.language_ties.proofs.moved.Settled.{settled_bounds, bound_as_settled}
 use Rattle.language_ties.proofs.own_names.AnyBounds.{AnyBound, any_bound, IsMade, is_made, own_kind}
 use Rattle.language_ties.proofs.own_names.OwnBounds.{own_maker}
 use Rattle.language_ties.proofs.own_names.OwnSymbols.{HasSymbol, function_symbol}
@@ -54,10 +54,10 @@ module _ (p : Tree) (h : first_fault p ≡ None) (e : is_ecmascript p ≡ true) 
   final = run start es
 
   abbrev ws : List Bound
-  ws = written p.source_type (steps p)
+  ws = settled_bounds p
 
   abbrev bs : List Bound
-  bs = bound_of p
+  bs = bound_as_settled p
 
   abbrev Known : Bound → Type 0
   Known b = KnownBound p h e numbered x plain b
@@ -88,7 +88,10 @@ module _ (p : Tree) (h : first_fault p ≡ None) (e : is_ecmascript p ≡ true) 
     pub class : IsClassBound place b d
 
   pub class_here : (d : Environment) (b : Bound) → Any b → Among d b.also → IsClassHere d b
-  class_here d b (inl k) a = record { place = k.placed.by_node.place; entered = k.placed.by_node.entered; class = class_bound p.source_type k.placed.by_node.place b k.plainly d a k.placed.by_node.place.node.kind k.placed.by_node.binds }
+  class_here d b (inl k) a = elim k.origin [
+    | inl stays ↦ record { place = k.declares.place; entered = k.declares.entered; class = class_bound p.source_type k.declares.place b k.plainly d a k.declares.place.node.kind stays.binds }
+    | inr left ↦ absurd (subst (Among d) left.bare a)
+  ]
   class_here d b (inr o) a = absurd (subst (Among d) o.named_by.alone a)
 
   pub directly : (d : Environment) (i : ℕ) → is_made_for environment.Class d ≡ false → (w : IsHere d i) → w.bind.environment ≡ d
