@@ -6,3 +6,4 @@ pub mod CaughtVariables
 pub mod HomesRound
 pub mod NameChildren
 pub mod NotedNames
+pub mod LeavesAlone

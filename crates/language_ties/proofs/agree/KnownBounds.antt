@@ -37,7 +37,7 @@ never_both : true ≡ false → ⊥
 never_both h = absurd cc
 
 -- an environment that takes variables is no class's
-taking_no_class : (d : Environment) → takes_variables d ≡ true → is_made_for environment.Class d ≡ false
+pub taking_no_class : (d : Environment) → takes_variables d ≡ true → is_made_for environment.Class d ≡ false
 taking_no_class d h = go d.kind h
   where
     go : (k : EnvironmentKind) → takes_variables (record { kind = k; maker = d.maker }) ≡ true → is_made_for environment.Class (record { kind = k; maker = d.maker }) ≡ false

@@ -107,7 +107,7 @@ module _ (p : Tree) (h : first_fault p ≡ None) (e : is_ecmascript p ≡ true) 
 
     -- ---- ways
 
-    abbrev Ways : Bound → Type 0
+    abbrev pub Ways : Bound → Type 0
     Ways b = (d : Environment) → Among d (crossed b) → InHome (steps p) (home_under q.path) q.node d
 
     here_ways : (w : BoundAs) (n : Node) → Ways (bound_here w es n)
@@ -125,7 +125,7 @@ module _ (p : Tree) (h : first_fault p ≡ None) (e : is_ecmascript p ≡ true) 
       | inr j ↦ elim j [ inl k ↦ subst (InHome (steps p) (home_under q.path) q.node) k (round (variable_environment es) variable_there) | inr k ↦ absurd k ]
     ]
 
-    declaration_ways : (n : Node) → Ways (bound_by_declaration p.source_type q.node q.path n)
+    pub declaration_ways : (n : Node) → Ways (bound_by_declaration p.source_type q.node q.path n)
     declaration_ways n = go (language.is_block_function p.source_type q.node q.path)
       where
         go : (t : Bool) → Ways (cond t (bound_identifier bound.Function (innermost es) (variable_environment es ∷ []) (passed es) n) (bound_here bound.Function es n))
@@ -293,7 +293,7 @@ module _ (p : Tree) (h : first_fault p ≡ None) (e : is_ecmascript p ≡ true) 
     abbrev declared_as : Name → Mention
     declared_as name = record { what = what.Declaration; home = home_under q.path; name = name }
 
-    function_noted_there : q.node.kind ≡ kind.Function → is_statement q.node ≡ true → (n : Node) → Among n (names_at role.Id q.node) → (m : Mention) → Among m (function_noted (around_under p.source_type q.path) q.node n.text) → Among m (noted_at p.source_type (entering q))
+    pub function_noted_there : q.node.kind ≡ kind.Function → is_statement q.node ≡ true → (n : Node) → Among n (names_at role.Id q.node) → (m : Mention) → Among m (function_noted (around_under p.source_type q.path) q.node n.text) → Among m (noted_at p.source_type (entering q))
     function_noted_there w st n a m i =
         subst (λ k. Among m (noted_by k (around_under p.source_type q.path) q.node)) (sym w)
         (subst (λ t. Among m (cond t (named_noted (function_noted (around_under p.source_type q.path) q.node) (child_of role.Id q.node)) [])) (sym st)
