@@ -26,10 +26,10 @@ abbrev first_taker : List Maker → Option ℕ
 first_taker [] = None
 first_taker (m ∷ ms) = cond m.takes_variables (Some m.node) (first_taker ms)
 
-abbrev maker_of : Environment → ℕ
+abbrev pub maker_of : Environment → ℕ
 maker_of e = e.maker
 
-abbrev opener_of : OpenScope → ℕ
+abbrev pub opener_of : OpenScope → ℕ
 opener_of s = s.opener
 
 -- ---- scopes
@@ -155,6 +155,10 @@ taker child (x ∷ path) = go x.kind (taker x path)
 
 -- ---- both
 
+-- where the first scope is that takes variables, there the first environment is
+pub takers_made : (chain : List OpenScope) (child : Node) (path : List Node) → map maker_of_scope chain ≡ makers (environments child path) → option_map opener_of (first_with is_var chain) ≡ option_map maker_of (first_taking (environments child path))
+takers_made chain child path same = first_scope chain ∙ ap first_taker same ∙ sym (taker child path)
+
 module _ (chain : List OpenScope) (child : Node) (path : List Node) (same : map maker_of_scope chain ≡ makers (environments child path)) (plain : IsPlain child path) where
   pub innermost_made : maker_of_scope (place.innermost chain) ≡ maker_of_environment (innermost (environments child path))
   innermost_made = innermost_scope chain ∙ ap first_maker same ∙ inner child path plain
@@ -166,4 +170,4 @@ module _ (chain : List OpenScope) (child : Node) (path : List Node) (same : map 
   target_made (Some s) None e = absurd cc
 
   pub variables_made : (outward_to is_var chain).target.opener ≡ (variable_environment (environments child path)).maker
-  variables_made = target_made (first_with is_var chain) (first_taking (environments child path)) (first_scope chain ∙ ap first_taker same ∙ sym (taker child path))
+  variables_made = target_made (first_with is_var chain) (first_taking (environments child path)) (takers_made chain child path same)

@@ -19,3 +19,4 @@ pub mod caught
 pub mod agree
 pub mod headers
 pub mod tangled
+pub mod moved

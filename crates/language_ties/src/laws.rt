@@ -6,7 +6,7 @@ ghost use Rattle.semantic_tree.specs.Tree.{Tree, IsNumbered};
 ghost use Rattle.semantic_model.specs.Event.{declarations, events};
 ghost use Rattle.semantic_model.specs.Step.{steps};
 ghost use Rattle.tangle_model.specs.Tangled.{tangle_reasons};
-ghost use Rattle.language_ties.specs.AgreeingNames.{AgreesApart, AgreesOutsideWith, AllStandApart, IsBoundPlainly, IsPlainName, IsReadOutsideWith};
+ghost use Rattle.language_ties.specs.AgreeingNames.{AgreesApart, AgreesOutsideWith, AgreesPastObjects, AllStandApart, IsBoundPlainly, IsPlainName, IsReadOutsideWith};
 ghost use Rattle.language_ties.specs.Agreement.{differing};
 ghost use Rattle.language_ties.specs.ClearNames.{IsBoundOnce, StaysInside};
 ghost use Rattle.language_ties.specs.EarlyErrors.{has_clash};
@@ -83,7 +83,8 @@ pub fn references_are_tied_nearest()
 {}
 
 /// Declarations of a name keep clear of each other where it is bound as no variable, no function and no plain catch name, where
-/// one identifier alone binds it, and where it is bound in plain ways and no `var` clashes.
+/// one identifier alone binds it, and where it is bound in plain ways or by functions that leave their blocks alone, and no
+/// `var` clashes.
 pub fn names_keep_clear()
     ensures lexical { (p : Tree) (name : Name) → first_fault p ≡ None → is_ecmascript p ≡ true
         → StaysInside p name → AllKeepClear name (declarations (events (steps p))) }
@@ -96,12 +97,13 @@ pub fn names_keep_clear()
 {}
 
 /// Tables and language agree on a name of which no `var` clashes, and which the program binds by `var`, `let`, `const`, imports,
-/// classes, functions, parameters, own names of expressions and catch clauses alone, by no function in a block of sloppy code that
-/// has a variable beside, by none that is the body of an `if`, and by no plain catch name whose clause a `var` of the name passes:
-/// each reference is tied to the one symbol of all by which the innermost environment binds the name that binds it at all, and free
-/// where none does, in headers of functions and clauses, too.
-/// Left out are references in a `with`, and those among parameters without an expression of a function that binds the name, which
-/// no source has: where computed keys are marked, none stands so (`references_stand_in_expressions`).
+/// classes, functions, parameters, own names of expressions and catch clauses alone, by no plain catch name whose clause a `var` of
+/// the name passes, and by functions in blocks of sloppy code that have a variable beside, bodies of `if` among them, only where
+/// nothing else of the name is bound on the way of that variable: each reference is tied to the one symbol of all by which the
+/// innermost environment binds the name that binds it at all, and free where none does, in headers of functions and clauses, too. In
+/// a `with` its object may have the name; they agree there on what the name means if it hasn't.
+/// Left out are references among parameters without an expression of a function that binds the name, which no source has: where
+/// computed keys are marked, none stands so (`references_stand_in_expressions`).
 pub fn plain_names_agree()
     ensures each { (p : Tree) (name : Name) → first_fault p ≡ None → is_ecmascript p ≡ true
         → IsNumbered p.root → bytes_eq name (codes "arguments") ≡ false
@@ -114,6 +116,10 @@ pub fn plain_names_agree()
         → IsNumbered p.root → bytes_eq name (codes "arguments") ≡ false
         → IsPlainName p name → has_clash p name ≡ false → keys_are_marked p.root.children ≡ true
         → AgreesOutsideWith p name }
+    ensures past_objects { (p : Tree) (name : Name) → first_fault p ≡ None → is_ecmascript p ≡ true
+        → IsNumbered p.root → bytes_eq name (codes "arguments") ≡ false
+        → IsPlainName p name → has_clash p name ≡ false → keys_are_marked p.root.children ≡ true
+        → AgreesPastObjects p name }
 {}
 
 /// Where computed keys of patterns are marked, a reference that stands among the parameters of a function stands in an

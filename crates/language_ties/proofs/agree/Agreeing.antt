@@ -27,53 +27,48 @@ use Rattle.semantic_model.specs.Hoist.{run}
 use Rattle.semantic_model.specs.Inside.{is_inside, is_in_header}
 use Rattle.semantic_model.specs.Place as place
 use Rattle.semantic_model.specs.Place.{Place, OpenScope, outside, parent_holds}
-use Rattle.semantic_model.specs.Step.{Step, entering, opening, header_ending, closing, leaving, steps_below, steps, root_place}
-use Rattle.semantic_model.specs.Tie.{view, view_by, until_end_of}
-use Rattle.semantic_model.proofs.fold.BodyChains.{AllInTable, IsStepIn}
-use Rattle.semantic_model.proofs.fold.Orders.{table_of, steps_in}
+use Rattle.semantic_model.specs.Step.{Step, entering, leaving, steps_below, steps, root_place}
+use Rattle.semantic_model.specs.Tie.{view_by, until_end_of}
+use Rattle.semantic_model.proofs.fold.BodyChains.{AllInTable}
+use Rattle.semantic_model.proofs.fold.Orders.{table_of}
 use Rattle.semantic_model.proofs.form.Clauses.{kind_is}
 use Rattle.semantic_model.proofs.form.ParameterChains.{is_open_inside}
-use Rattle.semantic_model.proofs.form.Shape.{has_form}
 use Rattle.semantic_model.proofs.steps.EachStep.{EachOfTurn, each_left, each_of_node, each_of_turn, turn_of_each}
 use Rattle.semantic_model.proofs.steps.Turn.{Turn, turn_at}
 use Rattle.semantic_model.proofs.steps.TurnCases.{opening_case, ending_case, last_case}
 use Rattle.walk_model.proofs.places.Shapes.{holds_below}
 use Rattle.binding_laws.proofs.CutSteps.{WillAwait}
-use Rattle.tangle_model.specs.Surroundings.{in_with_under}
 use Rattle.language_ties.specs.AgreeingNames.{IsPlainName, StandsInExpressions}
-use Rattle.language_ties.specs.Bound.{Bound, is_bound_as, written}
+use Rattle.language_ties.specs.Bound.{Bound, is_bound_as}
 use Rattle.language_ties.specs.EcmaScript.{is_ecmascript}
-use Rattle.language_ties.specs.Environments.{Environment, same_environment_kind, is_made_for, is_outside_body, has_parameter_expressions, made_by, environments, innermost}
-use Rattle.language_ties.specs.Meaning.{Meaning, bound, identifiers_in, meaning}
-use Rattle.language_ties.specs.Moved.{bound_of}
+use Rattle.language_ties.specs.Environments.{Environment, same_environment_kind, is_made_for, is_outside_body, has_parameter_expressions, is_body_of_with, made_by, environments, innermost}
+use Rattle.language_ties.specs.Meaning.{Meaning, identifiers_in, meaning_past_objects as meaning}
 use Rattle.language_ties.specs.NearestScopes.{nearest_symbol}
 use Rattle.language_ties.specs.Scopes.{Maker, maker_of_scope, maker_of_environment, has_scope, makers}
 use Rattle.language_ties.specs.SharedSymbols.{AllKeepClear}
 use Rattle.language_ties.specs.declared.bound_as.BoundAs.TheVariants as way
 use Rattle.language_ties.specs.declared.environment_kind.EnvironmentKind.{EnvironmentKind}
 use Rattle.language_ties.specs.declared.environment_kind.EnvironmentKind.TheVariants as environment
-use Rattle.language_ties.proofs.EnvironmentsRound.{IsKnown, KnownAt, known_program}
 use Rattle.language_ties.proofs.agree.EnteredOnce.{entered_once}
-use Rattle.language_ties.proofs.agree.FamiliarPlaces.{stands_well, is_function_kind, AllKnown, IsFamiliar, FamiliarAt, familiar_program}
+use Rattle.language_ties.proofs.agree.FamiliarPlaces.{stands_well, is_function_kind, IsFamiliar, FamiliarAt, familiar_program}
 use Rattle.language_ties.proofs.agree.FunctionKinds.{function_kinds, arrow_kinds, IsOrdinary}
-use Rattle.language_ties.proofs.agree.Identifiers.{identifier_here, meaning_further, meaning_object, meaning_here}
+use Rattle.language_ties.proofs.agree.Identifiers.{identifier_here, meaning_further, meaning_here}
 use Rattle.language_ties.proofs.agree.KnownBounds.{some_is, KnownBound}
 use Rattle.language_ties.proofs.agree.KnownNodes.{node_at}
 use Rattle.language_ties.proofs.agree.MadeEnvironments.{may_make, environment_kind_is, EndsAtProgram, innermost_among}
 use Rattle.language_ties.proofs.agree.PlainBounds.{no_class}
-use Rattle.language_ties.proofs.caught.BodyPlaces.{block_takes}
-use Rattle.language_ties.proofs.caught.CaughtBounds.{IsTakenBy, not_taken, no_block, of_clause, taken_into}
-use Rattle.language_ties.proofs.caught.ClausePlaces.{IsClauseBody, StandsInClause, IsClausal, ClausalAt, clausal_program, body_kind}
+use Rattle.language_ties.proofs.caught.CaughtBounds.{IsTakenBy, not_taken}
+use Rattle.language_ties.proofs.caught.ClausePlaces.{StandsInClause, body_kind}
 use Rattle.language_ties.proofs.headers.ChildChains.{ChainOf, outer_chain, inner_chain, OwnOf, own_of, chain_of}
 use Rattle.language_ties.proofs.headers.HeaderAnswers.{silent, answers_too, own_answers, caught_answers, caught_in_header, awaits}
 use Rattle.language_ties.proofs.headers.HeaderShape.{heads_parameters, tree_heads, header_list}
 use Rattle.language_ties.proofs.headers.Sides.{is_parameters}
+use Rattle.language_ties.proofs.moved.Settled.{settled_bounds, bound_as_settled}
 use Rattle.language_ties.proofs.own_names.AnyBounds.{AnyBound, any_bound}
 use Rattle.language_ties.proofs.own_names.OwnBounds.{IsOfExpression, OwnBound, own_maker}
 use Rattle.language_ties.proofs.own_names.OwnSymbols.{HasSymbol, class_symbol}
-use Rattle.language_ties.proofs.shared.HomesShared.{none_in_clause}
 use Rattle.language_ties.proofs.symbols.OneSymbol.{each_at}
-use Rattle.language_ties.proofs.symbols.ScopeOpeners.{openers, IsOpened, AllOpened, IsPlaceOpened, places_opened}
+use Rattle.language_ties.proofs.symbols.ScopeOpeners.{openers, IsOpened, AllOpened}
 use Rattle.language_ties.proofs.agree.ClauseBlocks.{body_agrees, round_child}
 use Rattle.language_ties.proofs.agree.PlaceAgreement.{outside_innermost, AllAre, Matches, Agrees, AgreesRound, AgreesBy, AgreesAt}
 use Rattle.language_ties.proofs.agree.ScopeAnswers as scopes
@@ -95,10 +90,10 @@ module _ (p : Tree) (h : first_fault p ≡ None) (e : is_ecmascript p ≡ true) 
   final = run start es
 
   abbrev ws : List Bound
-  ws = written p.source_type (steps p)
+  ws = settled_bounds p
 
   abbrev bs : List Bound
-  bs = bound_of p
+  bs = bound_as_settled p
 
   abbrev Known : Bound → Type 0
   Known b = KnownBound p h e numbered x plain b
@@ -114,18 +109,7 @@ module _ (p : Tree) (h : first_fault p ≡ None) (e : is_ecmascript p ≡ true) 
 
   -- ---- a child of a place
 
-  -- what stands in no `with` stands under nothing that does
-  with_outer : (q : Place) → (is kind.WithStatement q.node || in_with_under q.path) ≡ false → in_with_under q.path ≡ false
-  with_outer q = go (is kind.WithStatement q.node) (in_with_under q.path)
-    where
-      go : (a b : Bool) → (a || b) ≡ false → b ≡ false
-      go true b w = absurd (never w)
-      go false b w = w
-
-  module _ (q c : Place) (agree : Agrees p x q) (open_body : is_catch_body q ≡ false) (seen : IsSeen p q) (seen_child : IsSeen p c) (path : c.path ≡ q.node ∷ q.path) (well : stands_well q.node.kind c.role c.node.kind [] ≡ true) (heads : heads_parameters q.node.kind c.role c.node.kind [] ≡ true) (no_identifier : is kind.BindingIdentifier c.node ≡ false) (apart : in_with_under c.path ≡ false) (open_child : is_catch_body c ≡ false) where
-    apart_here : (is kind.WithStatement q.node || in_with_under q.path) ≡ false
-    apart_here = subst (λ l. in_with_under l ≡ false) path apart
-
+  module _ (q c : Place) (agree : Agrees p x q) (open_body : is_catch_body q ≡ false) (seen : IsSeen p q) (seen_child : IsSeen p c) (path : c.path ≡ q.node ∷ q.path) (well : stands_well q.node.kind c.role c.node.kind [] ≡ true) (heads : heads_parameters q.node.kind c.role c.node.kind [] ≡ true) (no_identifier : is kind.BindingIdentifier c.node ≡ false) (open_child : is_catch_body c ≡ false) where
     abbrev N : Option ℕ
     N = nearest_symbol final es x q.chain
 
@@ -177,7 +161,7 @@ module _ (p : Tree) (h : first_fault p ≡ None) (e : is_ecmascript p ≡ true) 
         where
           by : (t : Bool) → s.in_header ≡ t → Matches p (or_else (get (view_by s.in_header final es s.number).bindings s.number x) N) (meaning bs (ds ++ E) x)
           by false v = subst (λ b. Matches p (or_else (get (view_by b final es s.number).bindings s.number x) N) (meaning bs (ds ++ E) x)) (sym v) (last v (agree i.1))
-          by true v = subst (λ b. Matches p (or_else (get (view_by b final es s.number).bindings s.number x) N) (meaning bs (ds ++ E) x)) (sym v) (ends v i.0 (agree i.1))
+          by true v = subst (λ b. Matches p (or_else (get (view_by b final es s.number).bindings s.number x) N) (meaning bs (ds ++ E) x)) (sym v) (ends v (λ k b a n m. i.0 k b b.environment a n (inl refl) m) (agree i.1))
 
       -- where the header sees nothing
       unseen : (m : Meaning) → H ≡ None → Matches p N m → Matches p (or_else H N) m
@@ -233,11 +217,11 @@ module _ (p : Tree) (h : first_fault p ≡ None) (e : is_ecmascript p ≡ true) 
           where
             go : (is : List ℕ) → identifiers_in bs Clause x ≡ is → Matches p (or_else H N) (meaning bs (Clause ∷ E) x)
             go [] i =
-                subst (Matches p (or_else H N)) (sym (meaning_further bs x not_arguments Clause E refl i))
+                subst (Matches p (or_else H N)) (sym (meaning_further bs x not_arguments Clause E i))
                 (unseen (meaning bs E x) (silent p h e numbered x clear plain s s_opened (awaited v) whole (λ b a n k body. (let t : IsBoundBy b = is_there p h e numbered x not_arguments clear plain s s_opened s_entry q.node opener seen.familiar.node b a n (k ∙ opener) in none_there p h e numbered x not_arguments clear plain s s_opened s_entry q.node opener seen.familiar.node Clause i t.there (by_clause t.there)))) m)
             go (i ∷ is) j =
                 let (y, there, symbol) = caught_seen i (subst (Among i) (sym j) (inl refl)) in
-                subst (Matches p (or_else H N)) (sym (meaning_here bs x not_arguments Clause E i is refl j))
+                subst (Matches p (or_else H N)) (sym (meaning_here bs x not_arguments Clause E i is j))
                 (y, ap (λ z. or_else z N) there, all_caught y there (i ∷ is) (λ k a. subst (Among k) (sym j) a))
 
       one_shows : (k : EnvironmentKind) → ((j : EnvironmentKind) → may_make q.node.kind j ≡ true → j ≡ k) → IsOrdinary k → (s.in_header ≡ true → ⊥) → Shows (s ∷ q.chain) (record { kind = k; maker = q.node.node_id } ∷ [])
@@ -279,11 +263,11 @@ module _ (p : Tree) (h : first_fault p ≡ None) (e : is_ecmascript p ≡ true) 
           Parameters = record { kind = k; maker = q.node.node_id }
 
           go : (is : List ℕ) → identifiers_in bs Parameters x ≡ is → Matches p (or_else H N) (meaning bs (Parameters ∷ (ds ++ E)) x)
-          go [] i = subst (Matches p (or_else H N)) (sym (meaning_further bs x not_arguments Parameters (ds ++ E) n.0 i)) (rest (λ w z. none_there p h e numbered x not_arguments clear plain s s_opened s_entry q.node opener seen.familiar.node Parameters i w z) m)
+          go [] i = subst (Matches p (or_else H N)) (sym (meaning_further bs x not_arguments Parameters (ds ++ E) i)) (rest (λ w z. none_there p h e numbered x not_arguments clear plain s s_opened s_entry q.node opener seen.familiar.node Parameters i w z) m)
           go (i ∷ is) j =
               let w : IsHere Parameters i = is_here p h e numbered x not_arguments clear plain Parameters i (subst (Among i) (sym j) (inl refl)) in
-              let env : w.bind.environment ≡ Parameters = directly p h e numbered x not_arguments clear plain Parameters i n.1 w in
-              let known : Known w.bind = visible p h e numbered x not_arguments clear plain Parameters w.bind w.known env n.1 n.2 in
+              let env : w.bind.environment ≡ Parameters = directly p h e numbered x not_arguments clear plain Parameters i n.0 w in
+              let known : Known w.bind = visible p h e numbered x not_arguments clear plain Parameters w.bind w.known env n.0 n.1 in
               let same : H ≡ get final.bindings s.number x = answers_too p h e numbered x clear plain s s_opened (awaited v) whole w.bind known w.named (opener ∙ sym (ap (λ z. z.maker) env)) (subst (λ d. is_parameters d ≡ true) (sym env) parameters)
               (λ f found. subst (λ g. has_parameter_expressions g ≡ true) (some_is q.node f (sym seen.familiar.node ∙ ap (λ d. node_at p d.maker) (sym env) ∙ found)) (fits w.bind w.among w.named (ap (λ d. d.maker) env))) in
               subst (λ t. Matches p (or_else t N) (meaning bs (Parameters ∷ (ds ++ E)) x)) (sym same) (here p h e numbered x not_arguments clear plain s s_opened s_entry q.node opener seen.familiar.node Parameters (ds ++ E) refl n i is j N)
@@ -348,11 +332,11 @@ module _ (p : Tree) (h : first_fault p ≡ None) (e : is_ecmascript p ≡ true) 
           where
             go : (is : List ℕ) → identifiers_in bs HeaderName x ≡ is → Matches p (or_else H N) (meaning bs (HeaderName ∷ E) x)
             go [] i =
-                subst (Matches p (or_else H N)) (sym (meaning_further bs x not_arguments HeaderName E refl i))
+                subst (Matches p (or_else H N)) (sym (meaning_further bs x not_arguments HeaderName E i))
                 (unseen (meaning bs E x) (silent p h e numbered x clear plain s s_opened (awaited v) whole (λ b a n k body. (let t : IsBoundBy b = is_there p h e numbered x not_arguments clear plain s s_opened s_entry q.node opener seen.familiar.node b a n (k ∙ opener) in none_there p h e numbered x not_arguments clear plain s s_opened s_entry q.node opener seen.familiar.node HeaderName i t.there (named_alone b body t)))) m)
             go (i ∷ is) j =
                 let (y, there, symbol) = own_seen i (subst (Among i) (sym j) (inl refl)) in
-                subst (Matches p (or_else H N)) (sym (meaning_here bs x not_arguments HeaderName E i is refl j))
+                subst (Matches p (or_else H N)) (sym (meaning_here bs x not_arguments HeaderName E i is j))
                 (y, ap (λ z. or_else z N) there, all_seen y there (i ∷ is) (λ k a. subst (Among k) (sym j) a))
 
       function_shows : (k : EnvironmentKind) (n : IsOrdinary k) (ds : List Environment) → is_function_kind q.node.kind ≡ true → is_parameters (record { kind = k; maker = q.node.node_id }) ≡ true
@@ -415,7 +399,7 @@ module _ (p : Tree) (h : first_fault p ≡ None) (e : is_ecmascript p ≡ true) 
         go : (chain : List OpenScope) → c.chain ≡ chain → ChainOf q.node.kind c.role q.node q.chain chain → Shows chain (made_by kind.Function q.node c.node)
         go _ v (outer_chain i) = absurd (never (subst (λ a. is_inside a c.role ≡ false) w i))
         go _ v (inner_chain s i o j) =
-            function_shows s o j v environment.Parameters (refl, refl, refl, refl) (record { kind = environment.OwnName; maker = q.node.node_id } ∷ []) (subst (λ a. is_function_kind a ≡ true) (sym w) refl) refl
+            function_shows s o j v environment.Parameters (refl, refl, refl) (record { kind = environment.OwnName; maker = q.node.node_id } ∷ []) (subst (λ a. is_function_kind a ≡ true) (sym w) refl) refl
             (own_rest p h e numbered x not_arguments clear plain s (s_opened s o j v) (s_entry s o j v) q.node o seen.familiar.node (whole s o j v) w N E) (λ u none m. own_header s o j v w u none m)
 
     arrow_case : q.node.kind ≡ kind.ArrowFunctionExpression → ChainOf q.node.kind c.role q.node q.chain c.chain → Shows c.chain (made_by kind.ArrowFunctionExpression q.node c.node)
@@ -424,7 +408,7 @@ module _ (p : Tree) (h : first_fault p ≡ None) (e : is_ecmascript p ≡ true) 
         go : (chain : List OpenScope) → c.chain ≡ chain → ChainOf q.node.kind c.role q.node q.chain chain → Shows chain (made_by kind.ArrowFunctionExpression q.node c.node)
         go _ v (outer_chain i) = absurd (never (subst (λ a. is_inside a c.role ≡ false) w i))
         go _ v (inner_chain s i o j) =
-            function_shows s o j v environment.ArrowParameters (refl, refl, refl, refl) [] (subst (λ a. is_function_kind a ≡ true) (sym w) refl) refl
+            function_shows s o j v environment.ArrowParameters (refl, refl, refl) [] (subst (λ a. is_function_kind a ≡ true) (sym w) refl) refl
             (arrow_rest p h e numbered x not_arguments clear plain s (s_opened s o j v) (s_entry s o j v) q.node o seen.familiar.node (whole s o j v) w N E) (λ u none m. arrow_header s o j v w u none m)
 
     -- the body of an `if` opens no scope, and no plain name is of its environment
@@ -432,7 +416,7 @@ module _ (p : Tree) (h : first_fault p ≡ None) (e : is_ecmascript p ≡ true) 
     if_case w t = by (is kind.Function c.node && is_statement c.node) refl
       where
         outer : (chain : List OpenScope) → ChainOf q.node.kind c.role q.node q.chain chain → Shows chain (record { kind = environment.IfBody; maker = c.node.node_id } ∷ [])
-        outer _ (outer_chain i) = λ j. subst (Matches p N) (sym (meaning_further bs x not_arguments (record { kind = environment.IfBody; maker = c.node.node_id }) E refl (unusual p h e numbered x not_arguments clear plain c.node.node_id))) (agree j.1)
+        outer _ (outer_chain i) = λ j. subst (Matches p N) (sym (meaning_further bs x not_arguments (record { kind = environment.IfBody; maker = c.node.node_id }) E (unusual p h e numbered x not_arguments clear plain c.node.node_id))) (agree j.1)
         outer _ (inner_chain s i o j) = absurd (never (sym (subst (λ a. is_inside a c.role ≡ true) w i)))
 
         by : (b : Bool) → (is kind.Function c.node && is_statement c.node) ≡ b → Shows c.chain (cond b (record { kind = environment.IfBody; maker = c.node.node_id } ∷ []) [])
@@ -443,7 +427,7 @@ module _ (p : Tree) (h : first_fault p ≡ None) (e : is_ecmascript p ≡ true) 
     switch_case w t = by (is kind.SwitchCase c.node) refl
       where
         by : (b : Bool) → is kind.SwitchCase c.node ≡ b → Shows c.chain (cond b (record { kind = environment.Block; maker = q.node.node_id } ∷ []) [])
-        by true v = one_case kind.SwitchStatement environment.Block w (ap (λ b. cond b (record { kind = environment.Block; maker = q.node.node_id } ∷ []) []) v) (λ m. refl) (λ j y. environment_kind_is j environment.Block y) (refl, refl, refl, refl) (λ u. absurd (never (sym u))) t
+        by true v = one_case kind.SwitchStatement environment.Block w (ap (λ b. cond b (record { kind = environment.Block; maker = q.node.node_id } ∷ []) []) v) (λ m. refl) (λ j y. environment_kind_is j environment.Block y) (refl, refl, refl) (λ u. absurd (never (sym u))) t
         by false v = none_case kind.SwitchStatement w (ap (λ b. cond b (record { kind = environment.Block; maker = q.node.node_id } ∷ []) []) v) t
 
     -- inside the declaration of a class its name means what it means around; an expression's scope binds it, and nothing else is bound there
@@ -469,17 +453,13 @@ module _ (p : Tree) (h : first_fault p ≡ None) (e : is_ecmascript p ≡ true) 
 
       -- around the class the name has the symbol of each identifier that is there
       symbol_around : (d : Environment) (ds : List Environment) (j : ℕ) → Among j (identifiers_in bs d x) → Matches p N (meaning bs (d ∷ ds) x) → (y : ℕ) × (N ≡ Some y) × (symbol_at (analysis_of p) j ≡ Some y)
-      symbol_around d ds j a m = by (is_made_for environment.Object d) refl
+      symbol_around d ds j a m = go (identifiers_in bs d x) refl
         where
-          by : (t : Bool) → is_made_for environment.Object d ≡ t → (y : ℕ) × (N ≡ Some y) × (symbol_at (analysis_of p) j ≡ Some y)
-          by true o = absurd (subst (Matches p N) (meaning_object bs x not_arguments d ds o) m)
-          by false o = go (identifiers_in bs d x) refl
-            where
-              go : (is : List ℕ) → identifiers_in bs d x ≡ is → (y : ℕ) × (N ≡ Some y) × (symbol_at (analysis_of p) j ≡ Some y)
-              go [] v = absurd (subst (Among j) v a)
-              go (i ∷ is) v =
-                  let (y, there, all) = subst (Matches p N) (meaning_here bs x not_arguments d ds i is o v) m in
-                  (y, there, all_among (i ∷ is) y j all (subst (Among j) v a))
+          go : (is : List ℕ) → identifiers_in bs d x ≡ is → (y : ℕ) × (N ≡ Some y) × (symbol_at (analysis_of p) j ≡ Some y)
+          go [] v = absurd (subst (Among j) v a)
+          go (i ∷ is) v =
+              let (y, there, all) = subst (Matches p N) (meaning_here bs x not_arguments d ds i is v) m in
+              (y, there, all_among (i ∷ is) y j all (subst (Among j) v a))
 
       -- the declaration of a class and an expression's own name are never of one node
       not_both : (b c : Bound) → IsClassHere Inside b → (o : OwnBound p h x c) → c.environment ≡ Inside → ⊥
@@ -520,7 +500,7 @@ module _ (p : Tree) (h : first_fault p ≡ None) (e : is_ecmascript p ≡ true) 
       inside_shows : NoOwn → Matches p N (meaning bs E x) → (i : ℕ) (is : List ℕ) → identifiers_in bs Inside x ≡ i ∷ is → Matches p N (meaning bs (Inside ∷ E) x)
       inside_shows no_own m i is v =
           let (y, there, symbol) = symbol_inside no_own m i (subst (Among i) (sym v) (inl refl)) in
-          subst (Matches p N) (sym (meaning_here bs x not_arguments Inside E i is refl v)) (y, there, all_inside no_own m y there (i ∷ is) (λ j a. subst (Among j) (sym v) a))
+          subst (Matches p N) (sym (meaning_here bs x not_arguments Inside E i is v)) (y, there, all_inside no_own m y there (i ∷ is) (λ j a. subst (Among j) (sym v) a))
 
       -- ---- the scope
 
@@ -581,13 +561,13 @@ module _ (p : Tree) (h : first_fault p ≡ None) (e : is_ecmascript p ≡ true) 
               | inl z ↦ elim k.known [
                 | inl known ↦ absurd (not_declared k.bind known z)
                 | inr own ↦ (let u : HasSymbol p h e numbered x clear plain s i = own_symbol_of i k own z in
-                    subst (Matches p (or_else Answer N)) (sym (meaning_here bs x not_arguments Inside E i is refl v))
+                    subst (Matches p (or_else Answer N)) (sym (meaning_here bs x not_arguments Inside E i is v))
                     (u.symbol, ap (λ t. or_else t N) u.bound, all_own_inside k.bind own z u.symbol u.bound (i ∷ is) (λ j a. subst (Among j) (sym v) a)))
               ]
             ]
 
             go : (is : List ℕ) → identifiers_in bs Inside x ≡ is → Matches p (or_else Answer N) (meaning bs (Inside ∷ E) x)
-            go [] v = subst (Matches p (or_else Answer N)) (sym (meaning_further bs x not_arguments Inside E refl v))
+            go [] v = subst (Matches p (or_else Answer N)) (sym (meaning_further bs x not_arguments Inside E v))
                 (around (unbound_there (λ z. none_there p h e numbered x not_arguments clear plain s opened entry q.node o seen.familiar.node Inside v z (there_inside z))) (meaning bs E x) m)
             go (i ∷ is) v = by i is v (is_here p h e numbered x not_arguments clear plain Inside i (subst (Among i) (sym v) (inl refl)))
 
@@ -615,28 +595,30 @@ module _ (p : Tree) (h : first_fault p ≡ None) (e : is_ecmascript p ≡ true) 
               | inr body ↦ absurd (never (sym body ∙ open_child))
             ]
 
-    never_with : q.node.kind ≡ kind.WithStatement → ⊥
-    never_with w =
-        let there : is kind.WithStatement q.node ≡ true = subst (λ a. same_kind a kind.WithStatement ≡ true) (sym w) refl in
-        never (sym (ap (λ b. b || in_with_under q.path) there) ∙ apart_here)
+    with_case : q.node.kind ≡ kind.WithStatement → ChainOf q.node.kind c.role q.node q.chain c.chain → Shows c.chain (made_by kind.WithStatement q.node c.node)
+    with_case w t = by (is_body_of_with c.node) refl
+      where
+        by : (b : Bool) → is_body_of_with c.node ≡ b → Shows c.chain (cond b (record { kind = environment.Object; maker = q.node.node_id } ∷ []) [])
+        by true v = one_case kind.WithStatement environment.Object w (ap (λ b. cond b (record { kind = environment.Object; maker = q.node.node_id } ∷ []) []) v) (λ m. refl) (λ j y. environment_kind_is j environment.Object y) (refl, refl, refl) (λ u. absurd (never (sym u))) t
+        by false v = none_case kind.WithStatement w (ap (λ b. cond b (record { kind = environment.Object; maker = q.node.node_id } ∷ []) []) v) t
 
     by_kind : (k : AstType) → q.node.kind ≡ k → ChainOf q.node.kind c.role q.node q.chain c.chain → Shows c.chain (made_by k q.node c.node)
-    by_kind kind.Program w t = one_case kind.Program environment.Global w refl (λ m. refl) (λ j y. environment_kind_is j environment.Global y) (refl, refl, refl, refl) (λ u. absurd (never (sym u))) t
+    by_kind kind.Program w t = one_case kind.Program environment.Global w refl (λ m. refl) (λ j y. environment_kind_is j environment.Global y) (refl, refl, refl) (λ u. absurd (never (sym u))) t
     by_kind kind.Function w t = function_case w t
     by_kind kind.ArrowFunctionExpression w t = arrow_case w t
-    by_kind kind.StaticBlock w t = one_case kind.StaticBlock environment.StaticBlock w refl (λ m. refl) (λ j y. environment_kind_is j environment.StaticBlock y) (refl, refl, refl, refl) (λ u. absurd (never (sym u))) t
-    by_kind kind.BlockStatement w t = one_case kind.BlockStatement environment.Block w refl (λ m. refl) (λ j y. environment_kind_is j environment.Block y) (refl, refl, refl, refl) (λ u. absurd (never (sym u))) t
+    by_kind kind.StaticBlock w t = one_case kind.StaticBlock environment.StaticBlock w refl (λ m. refl) (λ j y. environment_kind_is j environment.StaticBlock y) (refl, refl, refl) (λ u. absurd (never (sym u))) t
+    by_kind kind.BlockStatement w t = one_case kind.BlockStatement environment.Block w refl (λ m. refl) (λ j y. environment_kind_is j environment.Block y) (refl, refl, refl) (λ u. absurd (never (sym u))) t
     by_kind kind.SwitchStatement w t = switch_case w t
     by_kind kind.IfStatement w t = if_case w t
-    by_kind kind.ForStatement w t = one_case kind.ForStatement environment.Loop w refl (λ m. refl) (λ j y. environment_kind_is j environment.Loop y) (refl, refl, refl, refl) (λ u. absurd (never (sym u))) t
-    by_kind kind.ForInStatement w t = one_case kind.ForInStatement environment.Loop w refl (λ m. refl) (λ j y. environment_kind_is j environment.Loop y) (refl, refl, refl, refl) (λ u. absurd (never (sym u))) t
-    by_kind kind.ForOfStatement w t = one_case kind.ForOfStatement environment.Loop w refl (λ m. refl) (λ j y. environment_kind_is j environment.Loop y) (refl, refl, refl, refl) (λ u. absurd (never (sym u))) t
+    by_kind kind.ForStatement w t = one_case kind.ForStatement environment.Loop w refl (λ m. refl) (λ j y. environment_kind_is j environment.Loop y) (refl, refl, refl) (λ u. absurd (never (sym u))) t
+    by_kind kind.ForInStatement w t = one_case kind.ForInStatement environment.Loop w refl (λ m. refl) (λ j y. environment_kind_is j environment.Loop y) (refl, refl, refl) (λ u. absurd (never (sym u))) t
+    by_kind kind.ForOfStatement w t = one_case kind.ForOfStatement environment.Loop w refl (λ m. refl) (λ j y. environment_kind_is j environment.Loop y) (refl, refl, refl) (λ u. absurd (never (sym u))) t
     by_kind kind.CatchClause w t = clause_case w t
     by_kind kind.Class w t = class_case w t
-    by_kind kind.WithStatement w t = absurd (never_with w)
+    by_kind kind.WithStatement w t = with_case w t
     by_kind _ w t = none_case _ w refl t
 
-  module _ (q c : Place) (seen : IsSeen p q) (seen_child : IsSeen p c) (path : c.path ≡ q.node ∷ q.path) (well : stands_well q.node.kind c.role c.node.kind [] ≡ true) (heads : heads_parameters q.node.kind c.role c.node.kind [] ≡ true) (no_identifier : is kind.BindingIdentifier c.node ≡ false) (apart : in_with_under c.path ≡ false) (t : ChainOf q.node.kind c.role q.node q.chain c.chain) where
+  module _ (q c : Place) (seen : IsSeen p q) (seen_child : IsSeen p c) (path : c.path ≡ q.node ∷ q.path) (well : stands_well q.node.kind c.role c.node.kind [] ≡ true) (heads : heads_parameters q.node.kind c.role c.node.kind [] ≡ true) (no_identifier : is kind.BindingIdentifier c.node ≡ false) (t : ChainOf q.node.kind c.role q.node q.chain c.chain) where
     under_clause : is_catch_body c ≡ true → is kind.CatchClause q.node ≡ true
     under_clause w = subst (λ l. parent_holds (is kind.CatchClause) l ≡ true) path (and_second (is kind.BlockStatement c.node && same_role c.role role.Body) (parent_holds (is kind.CatchClause) c.path) w)
 
@@ -660,7 +642,7 @@ module _ (p : Tree) (h : first_fault p ≡ None) (e : is_ecmascript p ≡ true) 
         in_open : (u : Bool) → is_catch_body c ≡ u → is_catch_body q ≡ false → Agrees p x q → AgreesBy p x u c
         in_open true w k a = round_child p h e numbered x not_arguments clear plain q c a (seen_child.clausal.body w) path (clause_chain w) (under_clause w)
         in_open false w k a = λ i. subst (λ l. Matches p (nearest_symbol final es x c.chain) (meaning bs (environments c.node l) x)) (sym path)
-            (by_kind q c a k seen seen_child path well heads no_identifier apart w q.node.kind refl t (subst (StandsInExpressions ws x c.node) path i))
+            (by_kind q c a k seen seen_child path well heads no_identifier w q.node.kind refl t (subst (StandsInExpressions ws x c.node) path i))
 
         in_closed : (u : Bool) → is_catch_body c ≡ u → is_catch_body q ≡ true → AgreesRound p x q → AgreesBy p x u c
         in_closed true w k a = absurd (never (sym (under_clause w) ∙ no_clause k))
@@ -672,7 +654,7 @@ module _ (p : Tree) (h : first_fault p ≡ None) (e : is_ecmascript p ≡ true) 
 
   -- ---- all places
 
-  agree_steps : (q : Place) (own : Option OpenScope) (n cursor : ℕ) (f : Forest) → (is kind.BindingIdentifier q.node ≡ false → in_with_under q.path ≡ false → AgreesBy p x (is_catch_body q) q) → IsSeen p q → OwnOf q own → holds_below heads_parameters q.node.kind f ≡ true → EachStep (SeenAt p) (steps_below q own n cursor f) → EachStep (AgreesAt p x) (steps_below q own n cursor f)
+  agree_steps : (q : Place) (own : Option OpenScope) (n cursor : ℕ) (f : Forest) → (is kind.BindingIdentifier q.node ≡ false → AgreesBy p x (is_catch_body q) q) → IsSeen p q → OwnOf q own → holds_below heads_parameters q.node.kind f ≡ true → EachStep (SeenAt p) (steps_below q own n cursor f) → EachStep (AgreesAt p x) (steps_below q own n cursor f)
   agree_steps q own n cursor nothing agree seen o heads k = last_case (EachStep (AgreesAt p x)) q own n tt (tt, (tt, tt))
   agree_steps q own n cursor (tree r k2 span text marks below id after) agree seen o heads k =
       let node : Node = record { kind = k2; span = span; text = text; marks = marks; children = below; node_id = id } in
@@ -685,7 +667,7 @@ module _ (p : Tree) (h : first_fault p ≡ None) (e : is_ecmascript p ≡ true) 
       let no_identifier : is kind.BindingIdentifier q.node ≡ false = not-true (same_kind q.node.kind kind.BindingIdentifier) (and_first (not (same_kind q.node.kind kind.BindingIdentifier)) _ well) in
       let o_scope : OwnOf q turn.scope = own_of q r own n o in
       let chain : ChainOf q.node.kind r q.node q.chain turn.child.chain = chain_of q r turn.scope cursor node child_seen.familiar.undecorated (is_open_inside q r own n) o_scope in
-      let child : is kind.BindingIdentifier node ≡ false → in_with_under (q.node ∷ q.path) ≡ false → AgreesBy p x (is_catch_body turn.child) turn.child = λ i w. child_agrees q turn.child seen child_seen refl well head i w chain (agree no_identifier (with_outer q w)) in
+      let child : is kind.BindingIdentifier node ≡ false → AgreesBy p x (is_catch_body turn.child) turn.child = λ i. child_agrees q turn.child seen child_seen refl well head i chain (agree no_identifier) in
       each_of_turn (AgreesAt p x) turn (record {
         before = opening_case (EachStep (AgreesAt p x)) q r own n tt (tt, tt);
         whole = each_of_node (AgreesAt p x) turn.child turn.below child (agree_steps turn.child None turn.next turn.inner below child child_seen tt (and_first (holds_below heads_parameters k2 below) (holds_below heads_parameters q.node.kind after) more) (each_left (SeenAt p) turn.below (leaving turn.child ∷ []) sees.whole.1)) tt;
@@ -700,5 +682,5 @@ module _ (p : Tree) (h : first_fault p ≡ None) (e : is_ecmascript p ≡ true) 
       let below : List Step = steps_below root None 0 n p.root.children in
       let all : EachStep (SeenAt p) (steps p) = seen_program p h e numbered in
       let first : is_catch_body root ≡ false = and_false (is kind.BlockStatement p.root && same_role role.Root role.Body) in
-      let one : is kind.BindingIdentifier p.root ≡ false → in_with_under [] ≡ false → AgreesBy p x (is_catch_body root) root = λ i w. subst (λ b. AgreesBy p x b root) (sym first) (λ j. refl) in
+      let one : is kind.BindingIdentifier p.root ≡ false → AgreesBy p x (is_catch_body root) root = λ i. subst (λ b. AgreesBy p x b root) (sym first) (λ j. refl) in
       each_of_node (AgreesAt p x) root below one (agree_steps root None 0 n p.root.children one all.0 tt (tree_heads p h) (each_left (SeenAt p) below (leaving root ∷ []) all.1)) tt

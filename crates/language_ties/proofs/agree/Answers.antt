@@ -1,5 +1,5 @@
 -- Of a plain name whose declarations keep clear, a scope binds exactly what the environments of its opener bind, and that of a clause's body what the clause's binds.
-use Rattle.std.proofs.Common.{◌≡◌, ℕ, ◌<◌, List, Option, Some, None, true, length, inl, inr, ◌⊎◌, false, refl, sym, ap, subst, ◌∙◌, arith}
+use Rattle.std.proofs.Common.{◌≡◌, ℕ, ◌<◌, List, Option, Some, None, true, length, ◌⊎◌, false, sym, ap, subst, ◌∙◌, arith}
 use Rattle.std.specs.Prelude.{slice_get}
 use Rattle.std.proofs.lemmas.Option.{slice_get_within}
 use Rattle.semantic_syntax.specs.Reading as reading
@@ -19,15 +19,16 @@ use Rattle.semantic_model.specs.TablesOf.{tables_of, scopes, evals}
 use Rattle.semantic_model.proofs.fits.Outwards.{bound_as, scopes_length}
 use Rattle.semantic_model.proofs.fold.Orders.{table_of}
 use Rattle.language_ties.specs.AgreeingNames.{IsPlainName}
-use Rattle.language_ties.specs.Bound.{Bound, written}
+use Rattle.language_ties.specs.Bound.{Bound}
 use Rattle.language_ties.specs.EcmaScript.{is_ecmascript}
 use Rattle.language_ties.specs.Environments.{is_made_for}
 use Rattle.language_ties.specs.SharedSymbols.{AllKeepClear, ShareSymbols, HasHomesSymbol, IsDeclaredAt}
 use Rattle.language_ties.specs.declared.environment_kind.EnvironmentKind.TheVariants as environment
 use Rattle.language_ties.proofs.UndeclaredNames.{each_identifier}
-use Rattle.language_ties.proofs.agree.KnownBounds.{some_is, KnownBound, bodiless}
+use Rattle.language_ties.proofs.agree.KnownBounds.{KnownBound, bodiless}
 use Rattle.language_ties.proofs.clear.SingleNames.{identifier_of, same_declaration, declared_once}
 use Rattle.language_ties.proofs.caught.CaughtBounds.{IsTakenBy, made_where}
+use Rattle.language_ties.proofs.moved.Settled.{settled, settled_bounds, settled_name, settled_identifier, settled_among}
 use Rattle.language_ties.proofs.own_names.AnyBounds.{AnyBound, any_bound, IsDeclared, is_declared}
 use Rattle.language_ties.proofs.shared.HomesShared.{share_symbols}
 use Rattle.language_ties.proofs.symbols.ScopeOpeners.{openers, IsOpened, one_scope}
@@ -41,7 +42,7 @@ module _ (p : Tree) (h : first_fault p ≡ None) (e : is_ecmascript p ≡ true) 
   final = run start (events (steps p))
 
   abbrev ws : List Bound
-  ws = written p.source_type (steps p)
+  ws = settled_bounds p
 
   abbrev shared : ShareSymbols p x
   shared = share_symbols p h e x clear
@@ -91,7 +92,7 @@ module _ (p : Tree) (h : first_fault p ≡ None) (e : is_ecmascript p ≡ true) 
   asked s y o entry g =
       let there : reading.bound_in (tables_of p) s.number x ≡ Some y = bound_as p s.number x (within s.number s.body entry) ∙ g in
       let w : IsDeclaredAt p x s.number y = shared.bound s.number y there in
-      let (b, a, n, i) = each_identifier p.source_type x (λ j. (b : Bound) × Among b ws × (b.name ≡ x) × (b.identifier ≡ j)) p h e (λ b a n. (b, a, n, refl)) w.declaration w.among w.named in
+      let (b, a, n, i) = each_identifier p.source_type x (λ j. (b : Bound) × Among b ws × (b.name ≡ x) × (b.identifier ≡ j)) p h e (λ b a n. (settled b, settled_among p b a, settled_name b ∙ n, settled_identifier b)) w.declaration w.among w.named in
       let v : AnyBound p h e numbered x plain b = any_bound p h e numbered x plain b a n in
       let k : IsDeclared p h e numbered x plain b = is_declared p h e numbered x plain b v in
       let one : identifier_of w.declaration ≡ identifier_of k.declaration = sym i ∙ sym k.identifier in

@@ -142,7 +142,7 @@ innermost_among child x [] h = subst (λ k. Among (innermost (made_by k x child 
 innermost_among child x (y ∷ path) h = innermost_of (made_by x.kind x child) (environments x (y ∷ path)) (innermost_among x y path h)
 
 -- the first that takes variables is there, or the innermost
-taking_among : (es : List Environment) (e : Environment) → first_taking es ≡ Some e → Among e es
+pub taking_among : (es : List Environment) (e : Environment) → first_taking es ≡ Some e → Among e es
 taking_among [] e h = absurd cc
 taking_among (d ∷ es) e h = go (takes_variables d) h (taking_among es e)
   where

@@ -153,11 +153,11 @@ taking_later (c ∷ es) fs h = go (takes_variables c) (taking_later es fs h)
     go false k = k
 
 -- below a program some environment takes variables
-takes_some : (child x : Node) (path : List Node) → EndsAtProgram x path → (d : Environment) × (first_taking (environments child (x ∷ path)) ≡ Some d)
+pub takes_some : (child x : Node) (path : List Node) → EndsAtProgram x path → (d : Environment) × (first_taking (environments child (x ∷ path)) ≡ Some d)
 takes_some child x [] h = subst (λ k. (d : Environment) × (first_taking (made_by k x child ++ []) ≡ Some d)) (sym h) (record { kind = environment.Global; maker = x.node_id }, refl)
 takes_some child x (y ∷ path) h = taking_later (made_by x.kind x child) (environments x (y ∷ path)) (takes_some x y path h)
 
-taking_takes : (es : List Environment) (d : Environment) → first_taking es ≡ Some d → takes_variables d ≡ true
+pub taking_takes : (es : List Environment) (d : Environment) → first_taking es ≡ Some d → takes_variables d ≡ true
 taking_takes [] d h = absurd cc
 taking_takes (c ∷ es) d h = go (takes_variables c) refl h (taking_takes es d)
   where

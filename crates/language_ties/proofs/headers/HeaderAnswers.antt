@@ -42,7 +42,7 @@ use Rattle.binding_laws.proofs.HeaderFold.{IsCutAt, cut_at, header_start}
 use Rattle.binding_laws.proofs.Matched.{IsMatchedStep, AreMatched, program_matched}
 use Rattle.binding_laws.proofs.SymbolsAtNodes.{symbols_are_at_nodes}
 use Rattle.language_ties.specs.AgreeingNames.{IsPlainName}
-use Rattle.language_ties.specs.Bound.{Bound, bound_by_node, is_bound_as, written}
+use Rattle.language_ties.specs.Bound.{Bound, bound_by_node, is_bound_as}
 use Rattle.language_ties.specs.EcmaScript.{is_ecmascript}
 use Rattle.language_ties.specs.Environments.{Environment, same_environment_kind, is_made_for, has_parameter_expressions, environments, innermost, takes_variables, first_taking, environment_or}
 use Rattle.language_ties.specs.OneSymbol.{HaveOneSymbol}
@@ -51,21 +51,23 @@ use Rattle.language_ties.specs.declared.bound_as.BoundAs.TheVariants as bound
 use Rattle.language_ties.specs.declared.environment_kind.EnvironmentKind.TheVariants as environment
 use Rattle.language_ties.proofs.UndeclaredNames.{each_identifier}
 use Rattle.language_ties.proofs.agree.Answers.{symbol_of, has_symbol, answers}
-use Rattle.language_ties.proofs.agree.KnownBounds.{some_is, KnownBound, bodiless}
+use Rattle.language_ties.proofs.agree.KnownBounds.{some_is, LeavesThere, KnownBound, bodiless}
 use Rattle.language_ties.proofs.agree.KnownNodes.{node_at}
 use Rattle.language_ties.proofs.agree.MadeEnvironments.{environment_kind_is}
 use Rattle.language_ties.proofs.caught.CaughtBounds.{IsTakenBy, taken_by}
 use Rattle.language_ties.proofs.caught.ClausePlaces.{IsClausal, ClausalAt, clausal_program, body_kind}
+use Rattle.language_ties.proofs.clear.PassedScopes.{taking_takes}
 use Rattle.language_ties.proofs.clear.SingleNames.{identifier_of, same_declaration, declared_once}
 use Rattle.language_ties.proofs.headers.Paired.{by_kind}
 use Rattle.language_ties.proofs.headers.Sides.{is_parameters, Side, TakingSide, Sides, SidesAt, sides_program}
+use Rattle.language_ties.proofs.moved.Settled.{settled, settled_bounds, settled_name, settled_identifier, settled_among}
 use Rattle.language_ties.proofs.own_names.AnyBounds.{AnyBound, any_bound, IsDeclared, is_declared, declared_known}
 use Rattle.language_ties.proofs.own_names.OwnBounds.{IsOfExpression, OwnBound, own_maker}
 use Rattle.language_ties.proofs.own_names.OwnSymbols.{one_name}
 use Rattle.language_ties.proofs.shared.HomesShared.{share_symbols, is_made, until_among, until_stays, at_header}
 use Rattle.language_ties.proofs.shared.Runs.{SharedAtLast}
 use Rattle.language_ties.proofs.shared.Shared.{IsNowIn, IsBoundNow, BoundBy}
-use Rattle.language_ties.proofs.symbols.OneSymbol.{each_at, one_symbol}
+use Rattle.language_ties.proofs.symbols.OneSymbol.{each_at, StaysThere, share_symbol}
 use Rattle.language_ties.proofs.symbols.ScopeOpeners.{openers, IsOpened, one_scope}
 
 never : true ≡ false → ⊥
@@ -141,7 +143,7 @@ module _ (p : Tree) (h : first_fault p ≡ None) (e : is_ecmascript p ≡ true) 
   final = run start es
 
   abbrev ws : List Bound
-  ws = written p.source_type (steps p)
+  ws = settled_bounds p
 
   abbrev Known : Bound → Type 0
   Known b = KnownBound p h e numbered x plain b
@@ -149,28 +151,49 @@ module _ (p : Tree) (h : first_fault p ≡ None) (e : is_ecmascript p ≡ true) 
   abbrev Any : Bound → Type 0
   Any b = AnyBound p h e numbered x plain b
 
-  -- the scope where its declaration ends, with its environment
-  side_of : (b : Bound) → b.name ≡ x → (k : Known b) → Side (node_at p) k.declares.declaration.route.target b.environment
-  side_of b n k =
+  -- what is bound where it is written
+  staying_sides : (b : Bound) → b.name ≡ x → (k : Known b) → StaysThere p h e numbered x b k.declares → Sides (node_at p) k.declares.place.chain (environments k.declares.place.node k.declares.place.path)
+  staying_sides b n k stays =
       let q : Place = k.declares.place in
-      let both : Sides (node_at p) q.chain (environments q.node q.path) = each_at (SidesAt (node_at p)) (steps p) (entering q) (sides_program p h e numbered) k.declares.entered (no_identifier p.source_type q b k.declares.binds) in
-      elim (by_kind p.source_type q k.declares.declaration b q.node.kind k.declares.unmoved k.declares.told k.declares.binds) [
+      each_at (SidesAt (node_at p)) (steps p) (entering q) (sides_program p h e numbered) k.declares.entered (no_identifier p.source_type q b stays.binds)
+
+  staying_side : (b : Bound) → b.name ≡ x → (k : Known b) → StaysThere p h e numbered x b k.declares → Side (node_at p) k.declares.declaration.route.target b.environment
+  staying_side b n k stays =
+      let q : Place = k.declares.place in
+      let both : Sides (node_at p) q.chain (environments q.node q.path) = staying_sides b n k stays in
+      elim (by_kind p.source_type q k.declares.declaration b q.node.kind stays.unmoved k.declares.told stays.binds) [
         | inl w ↦ subst (λ d. Side (node_at p) k.declares.declaration.route.target d) (sym w.1) (subst (λ r. Side (node_at p) r.target (innermost (environments q.node q.path))) (sym w.0) both.inner)
         | inr w ↦ subst (λ d. Side (node_at p) k.declares.declaration.route.target d) (sym w.1)
             (subst (λ r. Side (node_at p) r.target (environment_or (innermost (environments q.node q.path)) (first_taking (environments q.node q.path)))) (sym w.0)
             (target_side (node_at p) q.chain (passed_before is_var q.chain) (environments q.node q.path) (first_with is_var q.chain) (first_taking (environments q.node q.path)) both.taking both.inner))
       ]
 
+  -- a function that leaves its block ends where variables go
+  leaving_side : (b : Bound) (k : Known b) → LeavesThere p h e numbered x plain b k.declares → Side (node_at p) k.declares.declaration.route.target b.environment
+  leaving_side b k left =
+      let q : Place = k.declares.place in
+      let both : Sides (node_at p) q.chain (environments q.node q.path) = each_at (SidesAt (node_at p)) (steps p) (entering q) (sides_program p h e numbered) k.declares.entered (ap (λ i. same_kind i kind.BindingIdentifier) left.binds.function) in
+      taker_side (first_with is_var q.chain) (first_taking (environments q.node q.path)) k.declares.declaration.route.target b.environment (left.left.target ∙ ap (λ d. Some d.route.target) (sym left.declares)) left.taking both.taking
+    where
+      taker_side : (o : Option OpenScope) (t : Option Environment) (s : OpenScope) (d : Environment) → o ≡ Some s → t ≡ Some d → TakingSide (node_at p) o t → Side (node_at p) s d
+      taker_side o t s d v w i = subst (λ z. TakingSide (node_at p) (Some s) z) w (subst (λ z. TakingSide (node_at p) z t) v i)
+
+  -- the scope where its declaration ends, with its environment
+  side_of : (b : Bound) → b.name ≡ x → (k : Known b) → Side (node_at p) k.declares.declaration.route.target b.environment
+  side_of b n k = elim k.origin [ inl stays ↦ staying_side b n k stays | inr left ↦ leaving_side b k left ]
+
+  -- what a clause binds is no function that leaves its block
+  clause_stays : (b : Bound) (k : Known b) → is_made_for environment.Catch b.environment ≡ true → LeavesThere p h e numbered x plain b k.declares → ⊥
+  clause_stays b k caught left =
+      never (sym (taking_takes (environments k.declares.place.node k.declares.place.path) b.environment left.taking) ∙ ap (λ z. takes_variables (record { kind = z; maker = b.environment.maker })) (environment_kind_is b.environment.kind environment.Catch caught))
+
   -- what a clause binds is declared in the innermost scope of its place, in the header
   caught_target : (b : Bound) → b.name ≡ x → (k : Known b) → is_made_for environment.Catch b.environment ≡ true → k.declares.declaration.route.target ≡ place.innermost k.declares.place.chain
-  caught_target b n k caught =
-      let q : Place = k.declares.place in
-      let both : Sides (node_at p) q.chain (environments q.node q.path) = each_at (SidesAt (node_at p)) (steps p) (entering q) (sides_program p h e numbered) k.declares.entered (no_identifier p.source_type q b k.declares.binds) in
-      elim (by_kind p.source_type q k.declares.declaration b q.node.kind k.declares.unmoved k.declares.told k.declares.binds) [
-        | inl w ↦ ap (λ r. r.target) w.0
-        | inr w ↦ ap (λ r. r.target) w.0 ∙ outward q.chain (environments q.node q.path) (first_with is_var q.chain) (first_taking (environments q.node q.path)) refl both.taking (subst (λ d. is_made_for environment.Catch d ≡ true) w.1 caught)
-      ]
+  caught_target b n k caught = elim k.origin [ inl stays ↦ of_staying stays | inr left ↦ absurd (clause_stays b k caught left) ]
     where
+      q : Place
+      q = k.declares.place
+
       takes_first : (ds : List Environment) (d : Environment) → first_taking ds ≡ Some d → takes_variables d ≡ true
       takes_first [] d i = absurd cc
       takes_first (c ∷ ds) d i = go (takes_variables c) refl i (takes_first ds d)
@@ -187,6 +210,12 @@ module _ (p : Tree) (h : first_fault p ≡ None) (e : is_ecmascript p ≡ true) 
       outward chain ds (Some s) None i v c = absurd v
       outward chain ds (Some s) (Some d) i v c = absurd (never (sym (takes_first ds d i) ∙ no_catch d c))
 
+      of_staying : StaysThere p h e numbered x b k.declares → k.declares.declaration.route.target ≡ place.innermost k.declares.place.chain
+      of_staying stays = elim (by_kind p.source_type q k.declares.declaration b q.node.kind stays.unmoved k.declares.told stays.binds) [
+        | inl w ↦ ap (λ r. r.target) w.0
+        | inr w ↦ ap (λ r. r.target) w.0 ∙ outward q.chain (environments q.node q.path) (first_with is_var q.chain) (first_taking (environments q.node q.path)) refl (staying_sides b n k stays).taking (subst (λ d. is_made_for environment.Catch d ≡ true) w.1 caught)
+      ]
+
   pub caught_in_header : (b : Bound) → b.name ≡ x → (k : Known b) → is_made_for environment.Catch b.environment ≡ true → (y : Node) → node_at p b.environment.maker ≡ Some y → y.kind ≡ kind.CatchClause → k.declares.declaration.route.target.in_header ≡ true
   caught_in_header b n k caught y f c =
       let q : Place = k.declares.place in
@@ -195,7 +224,10 @@ module _ (p : Tree) (h : first_fault p ≡ None) (e : is_ecmascript p ≡ true) 
       let opener : (place.innermost q.chain).opener ≡ b.environment.maker = ap (λ s. s.opener) (sym target) ∙ k.declares.maker in
       elim (clausal.stands y (ap (node_at p) opener ∙ f) c) [
         | inl w ↦ ap (λ s. s.in_header) target ∙ w
-        | inr w ↦ absurd (subst (λ i. Among b (bound_by_node i p.source_type q.node q.path)) (body_kind q w) k.declares.binds)
+        | inr w ↦ elim k.origin [
+          | inl stays ↦ absurd (subst (λ i. Among b (bound_by_node i p.source_type q.node q.path)) (body_kind q w) stays.binds)
+          | inr left ↦ absurd (clause_stays b k caught left)
+        ]
       ]
 
   -- ---- what a declaration binds
@@ -209,7 +241,7 @@ module _ (p : Tree) (h : first_fault p ≡ None) (e : is_ecmascript p ≡ true) 
 
   is_of : (d : Declaration) → Among d (declarations es) → d.naming.name ≡ x → IsOf d
   is_of d a name =
-      let (b, w, n, i) = each_identifier p.source_type x (λ j. (b : Bound) × Among b ws × (b.name ≡ x) × (b.identifier ≡ j)) p h e (λ b w n. (b, w, n, refl)) d a name in
+      let (b, w, n, i) = each_identifier p.source_type x (λ j. (b : Bound) × Among b ws × (b.name ≡ x) × (b.identifier ≡ j)) p h e (λ b w n. (settled b, settled_among p b w, settled_name b ∙ n, settled_identifier b)) d a name in
       let k : Any b = any_bound p h e numbered x plain b w n in
       let v : IsDeclared p h e numbered x plain b = is_declared p h e numbered x plain b k in
       let one : identifier_of d ≡ identifier_of v.declaration = sym i ∙ sym v.identifier in
@@ -397,7 +429,7 @@ module _ (p : Tree) (h : first_fault p ≡ None) (e : is_ecmascript p ≡ true) 
         by w (inr v) j = absurd (no_own w.tells.bind v w.maker)
         by w (inl v) j =
             let identifier : w.made.declaration.naming.identifier ≡ w.tells.bind.identifier = ap identifier_of j ∙ (is_declared p h e numbered x plain w.tells.bind (inl v)).identifier in
-            let both : HaveOneSymbol p b w.tells.bind = one_symbol p h e numbered x (share_symbols p h e x clear) b w.tells.bind k.placed.by_node v.placed.by_node n w.tells.named (sym q ∙ sym w.maker) in
+            let both : HaveOneSymbol p b w.tells.bind = share_symbol p h e numbered x (share_symbols p h e x clear) b w.tells.bind k.declares v.declares (sym q ∙ sym w.maker) in
             let same : both.symbol ≡ w.made.symbol = some_is both.symbol w.made.symbol (sym both.second ∙ symbol_is_at w.made w.among w.tells.bind.identifier identifier) in
             both.first ∙ ap Some (same ∙ w.symbol)
 

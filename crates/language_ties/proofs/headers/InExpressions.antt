@@ -183,7 +183,7 @@ module _ (p : Tree) where
   -- so each reference stands in expressions
   of_expressed : (bs : List Bound) (name : Name) (x : Node) (path : List Node) → AllExpressed x path → StandsInExpressions bs name x path
   of_expressed bs name x [] h = tt
-  of_expressed bs name x (f ∷ path) h = ((λ k b a n m. h.0 k), of_expressed bs name f path h.1)
+  of_expressed bs name x (f ∷ path) h = ((λ k b d a n i m. h.0 k), of_expressed bs name f path h.1)
 
   pub in_expressions : first_fault p ≡ None → is_ecmascript p ≡ true → keys_are_marked p.root.children ≡ true → (name : Name) (q : Place) → Among (entering q) (steps p) → is kind.IdentifierReference q.node ≡ true → StandsInExpressions (written p.source_type (steps p)) name q.node q.path
   in_expressions h e m name q a k = elim (each_at FitsAt (steps p) (entering q) (fits_program h e m) a) [

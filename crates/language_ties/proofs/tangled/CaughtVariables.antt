@@ -93,12 +93,12 @@ inner_clause kind.BindingProperty h = refl
 inner_clause kind.BindingRestElement h = refl
 inner_clause _ h = absurd (never (sym h))
 
-reached_declarer : (path goal : List Node) → Reaches path goal → declarer_under path ≡ declarer_under goal
+pub reached_declarer : (path goal : List Node) → Reaches path goal → declarer_under path ≡ declarer_under goal
 reached_declarer [] goal h = ap declarer_under h
 reached_declarer (x ∷ path) goal (inl h) = ap declarer_under h
 reached_declarer (x ∷ path) goal (inr h) = inner_declarer x.kind x (declarer_under path) h.0 ∙ reached_declarer path goal h.1
 
-reached_home : (path goal : List Node) → Reaches path goal → home_under path ≡ home_under goal
+pub reached_home : (path goal : List Node) → Reaches path goal → home_under path ≡ home_under goal
 reached_home [] goal h = ap home_under h
 reached_home (x ∷ path) goal (inl h) = ap home_under h
 reached_home (x ∷ path) goal (inr h) = ap (λ b. cond b x.node_id (home_under path)) (inner_home x.kind h.0) ∙ reached_home path goal h.1
@@ -182,7 +182,7 @@ module _ (s : SourceType) (x : Node) (path : List Node) (c : Bound) where
 
 -- ---- what the parameter of a clause binds stands below it
 
-in_below : (f : Forest) (m n : Node) → Among m (children_of role.Pattern f) → Among n (bound_names m) → Among n (bound_below kind.CatchParameter f)
+pub in_below : (f : Forest) (m n : Node) → Among m (children_of role.Pattern f) → Among n (bound_names m) → Among n (bound_below kind.CatchParameter f)
 in_below nothing m n a b = absurd a
 in_below (tree r k span text marks below id after) m n a b = go (same_role r role.Pattern) a (λ i. in_below after m n i b)
   where
@@ -201,7 +201,7 @@ module _ (p : Tree) (h : first_fault p ≡ None) (e : is_ecmascript p ≡ true) 
   familiar_at q a = each_at (FamiliarAt (node_at p)) (steps p) (entering q) (familiar_program p h e numbered) a
 
   -- an identifier below a place that holds names
-  name_place : (q : Place) → Among (entering q) (steps p) → holds_names q.node.kind ≡ true → (i : Node) → Among i (bound_below q.node.kind q.node.children) → IsNamePlace (steps p) (q.node ∷ q.path) i
+  pub name_place : (q : Place) → Among (entering q) (steps p) → holds_names q.node.kind ≡ true → (i : Node) → Among i (bound_below q.node.kind q.node.children) → IsNamePlace (steps p) (q.node ∷ q.path) i
   name_place q a k i b =
       let amid : IsAmidSteps (steps p) q = each_at (AmidAt (steps p)) (steps p) (entering q) (amid_program p) a in
       let stands_well : NamesStandAt (entering q) = each_at NamesStandAt (steps p) (entering q) (stand_program p h) a in
@@ -368,4 +368,4 @@ module _ (p : Tree) (h : first_fault p ≡ None) (e : is_ecmascript p ≡ true) 
 
 module _ (p : Tree) (h : first_fault p ≡ None) (e : is_ecmascript p ≡ true) (numbered : IsNumbered p.root) (name : Name) (untangled : tangle_reasons p name ≡ []) (each : IsBoundPlainly p name) where
   pub plain_name : IsPlainName p name
-  plain_name = record { each = each; unpassed = λ b c i j n m k var passes. passes_not p h e numbered name untangled b c i j n m k var passes }
+  plain_name = record { each = λ b a n. inl (each b a n); unpassed = λ b c i j n m k var passes. passes_not p h e numbered name untangled b c i j n m k var passes }

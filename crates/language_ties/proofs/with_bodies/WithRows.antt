@@ -1,15 +1,19 @@
 -- What names mean that something in a `with` declares, and that the tables say the same outside of it, by computation.
 use lib.Utf8.{encode}
 use Rattle.std.specs.Str.{chars}
-use Rattle.std.proofs.Common.{◌≡◌, [], ◌∷◌, None, codes, true, refl}
+use Rattle.std.proofs.Common.{◌≡◌, [], ◌∷◌, None, codes, true, refl, map}
 use Rattle.semantic_tree.specs.Faults.{first_fault}
 use Rattle.tangle_model.specs.Tangled.{tangle_reasons}
 use Rattle.tangle_model.specs.declared.reason.Reason.TheVariants.{With}
-use Rattle.language_ties.specs.Agreement.{differing}
+use Rattle.language_ties.specs.Agreement.{differing, use_agrees_past_objects}
 use Rattle.language_ties.specs.EcmaScript.{is_ecmascript}
-use Rattle.language_ties.specs.Meaning.{meanings, unbound, bound}
+use Rattle.language_ties.specs.Meaning.{meanings, unbound, bound, meaning_past_objects, uses}
 use Rattle.language_ties.specs.declared.environment_kind.EnvironmentKind.TheVariants.{Global, OwnName}
 use Rattle.language_ties.proofs.with_bodies.WithPrograms.{let_and_parameter, class_within, function_within, variable_within, function_as_object, function_leaves, if_leaves}
+use Rattle.semantic_model.specs.Analysis.{analysis_of}
+use Rattle.semantic_model.specs.Step.{steps}
+use Rattle.language_ties.specs.Moved.{bound_of}
+use Rattle.language_ties.proofs.PartingPrograms.{in_with}
 
 let_and_parameter_faultless : first_fault let_and_parameter ≡ None
 unfolding encode chars
@@ -103,3 +107,12 @@ if_leaves_f_untangled = refl
 if_leaves_f_agrees : differing if_leaves (codes "f") ≡ []
 unfolding encode chars
 if_leaves_f_agrees = refl
+
+-- if the object hasn't the name, it means in the body of the `with` what it means outside
+in_with_past_objects : map (λ u. meaning_past_objects (bound_of in_with) u.round u.name) (uses (steps in_with)) ≡ bound (record { kind = Global; maker = 0 }) (3 ∷ []) ∷ bound (record { kind = Global; maker = 0 }) (3 ∷ []) ∷ []
+unfolding encode chars
+in_with_past_objects = refl
+
+in_with_agrees : map (use_agrees_past_objects (analysis_of in_with) (bound_of in_with)) (uses (steps in_with)) ≡ true ∷ true ∷ []
+unfolding encode chars
+in_with_agrees = refl

@@ -1,4 +1,4 @@
-use Rattle.language_ties.proofs.agree.AgreeingUses.{agrees_apart}
+use Rattle.language_ties.proofs.agree.AgreeingUses.{agrees_apart, agrees_past_objects}
 use Rattle.language_ties.proofs.agree.Differing.{nothing_differs}
 use Rattle.language_ties.proofs.clear.UnclashedNames.{unclashed_clear}
 use Rattle.language_ties.proofs.headers.InExpressions.{in_expressions}
@@ -14,3 +14,7 @@ returns-clause-none c = λ p name h e numbered not_arguments plain no_clash apar
 pub returns-clause-marked : goal.returns-clause-marked
 returns-clause-marked c = λ p name h e numbered not_arguments plain no_clash marked q a k n w.
     agrees_apart p h e numbered name not_arguments (unclashed_clear p h e numbered name plain no_clash) plain q a k n (w, in_expressions p h e marked name q a k)
+
+pub returns-clause-past_objects : goal.returns-clause-past_objects
+returns-clause-past_objects c = λ p name h e numbered not_arguments plain no_clash marked q a k n.
+    agrees_past_objects p h e numbered name not_arguments (unclashed_clear p h e numbered name plain no_clash) plain q a k n (in_expressions p h e marked name q a k)
