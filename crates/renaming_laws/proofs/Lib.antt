@@ -32,5 +32,8 @@ pub mod FreeReferences
 pub mod LastStep
 pub mod KeptErrors
 pub mod ToldSteps
+pub mod TopChains
+pub mod TopImports
 pub mod RootImports
+pub mod BoundImports
 pub mod AllErrors
