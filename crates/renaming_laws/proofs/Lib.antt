@@ -19,6 +19,7 @@ pub mod BackAllowed
 pub mod AloneConflicts
 pub mod AloneErrors
 pub mod KeptSymbols
+pub mod SharedFlags
 pub mod NamespaceLooks
 pub mod NamespaceNames
 pub mod FreshNames
