@@ -44,23 +44,24 @@ use Rattle.rename_model.proofs.AloneNames.{are_identifiers}
 use Rattle.rename_model.proofs.Completeness.{no_fault_renamed}
 use Rattle.rename_model.proofs.Refusals.{ends_renamed, none_means_free}
 use Rattle.swapped_checks.specs.RuleWords.{rule_words, is_rule_word}
-use Rattle.swapped_checks.specs.SwappedPrograms.{holds_below, holds_within, keeps_prototype}
+use Rattle.swapped_checks.specs.SwappedPrograms.{holds_below, holds_within}
 use Rattle.swapped_checks.specs.SwappedRows.{AreToldAgain}
 use Rattle.swapped_checks.proofs.PlainForm.{formed_and}
 use Rattle.swapped_checks.proofs.Spots.{Spots, program_spots}
 use Rattle.swapped_checks.proofs.SwappedTold.{writes_out, written_marks, none, none_written, change_by, written_same}
 use Rattle.swapped_checks.proofs.Told.{other_way}
-use Rattle.renaming_laws.specs.KeptImports.{KeepsImports}
 use Rattle.renaming_laws.specs.InBlocks.{ShareFlags}
 use Rattle.renaming_laws.specs.KeptSignatures.{keeps_signature}
+use Rattle.renaming_laws.specs.LeavesRules.{LeavesRules}
 use Rattle.renaming_laws.specs.NewNames.{instead}
+use Rattle.renaming_laws.proofs.BoundImports.{imports_kept}
 use Rattle.renaming_laws.proofs.FreeReferences.{free_in, free_by_tables, free_alike}
 use Rattle.renaming_laws.proofs.FreshNames.{fresh, longer, shorter_differs, longer_is_no_word}
 use Rattle.renaming_laws.proofs.KeptConflicts.{q, shed, unmarked, in_common, keeps_read}
 use Rattle.renaming_laws.proofs.KeptErrors.{roots, test}
 use Rattle.renaming_laws.proofs.MarkedSymbol.{AreApart, apart_below, becomes, old_comes_back}
 use Rattle.renaming_laws.proofs.MarkedTests.{is_marked, marked_below}
-use Rattle.renaming_laws.proofs.RootImports.{roots_alike}
+use Rattle.renaming_laws.proofs.RootImports.{KeepsImports, roots_alike}
 use Rattle.renaming_laws.proofs.SeenSymbols.{BoundAlike}
 use Rattle.renaming_laws.proofs.ToldSteps.{all_along}
 use Rattle.renaming_laws.proofs.ToldThrough.{AreShort}
@@ -247,13 +248,13 @@ module _ (p : Tree) (faultless : first_fault p ≡ None) (numbered : IsNumbered 
         (walked_alike C Q z new is_new) (walked_spots C Q z new is_new (test s chosen z y.name new) passed)
         old_rows (subst (AreShort z) (ap told_new same_free) new_rows))
 
-  pub errors_kept : (r : Tree) (checks : Bool) → is_rule_word y.name ≡ false → is_rule_word new ≡ false → holds_within (keeps_prototype (sheds chosen)) p.root ≡ true → holds_within (keeps_signature chosen y.name new) p.root ≡ true
-      → rename p s new ≡ Ok r → namespace_states (steps r) ≡ namespace_states (steps p) → ShareFlags (made_of p) → ShareFlags (made_of r) → KeepsImports p r → AreToldAgain (instead y.name new) (diagnostics_of checks p) (diagnostics_of checks r)
-  errors_kept r checks plain_old plain_new prototypes signatures h e share others kept =
+  pub errors_kept : (r : Tree) (checks : Bool) → LeavesRules p s y.name new → rename p s new ≡ Ok r → namespace_states (steps r) ≡ namespace_states (steps p) → ShareFlags (made_of p) → ShareFlags (made_of r) → AreToldAgain (instead y.name new) (diagnostics_of checks p) (diagnostics_of checks r)
+  errors_kept r checks rules h e share others =
       let (bad, none_fix, same, is) = ends_renamed p s new r h in
       let free : first_fixed (exported_names (steps p)) chosen (steps p) ≡ None = none_means_free p s none_fix in
+      let kept : KeepsImports p r = imports_kept p faultless numbered s y there new r h e share others rules.imports in
       let formed : HasForm r = subst HasForm (sym is) (has_form Q (no_fault_renamed p faultless numbered s y there new bad free).0) in
       let imports : ImportsAlike r = roots_alike p r (has_form p faultless) formed kept in
       subst (λ t. AreToldAgain (instead y.name new) (diagnostics_of checks p) (diagnostics_of checks t)) (sym is)
-      (subst (λ rows. AreToldAgain (instead y.name new) rows (diagnostics_of checks Q)) (written_same (sheds chosen) checks p faultless prototypes)
-      (unmarked_told checks plain_old plain_new signatures bad free (subst (Same p) is same) (subst (λ t. namespace_states (steps t) ≡ namespace_states (steps p)) is e) share (subst (λ t. ShareFlags (made_of t)) is others) (subst ImportsAlike is imports)))
+      (subst (λ rows. AreToldAgain (instead y.name new) rows (diagnostics_of checks Q)) (written_same (sheds chosen) checks p faultless rules.prototypes)
+      (unmarked_told checks rules.plain_old rules.plain_new rules.signatures bad free (subst (Same p) is same) (subst (λ t. namespace_states (steps t) ≡ namespace_states (steps p)) is e) share (subst (λ t. ShareFlags (made_of t)) is others) (subst ImportsAlike is imports)))

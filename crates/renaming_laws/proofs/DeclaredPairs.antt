@@ -110,7 +110,7 @@ all_pairs : (ds new : List Declaration) → pairs (declarations (declares_all ds
 all_pairs ds [] = refl
 all_pairs ds (d ∷ new) = λ i. placed_pair d.how ds d i ∷ all_pairs ds new i
 
-taken_none : (p : Place) (s : OpenScope) → declarations (taken_over p s) ≡ []
+pub taken_none : (p : Place) (s : OpenScope) → declarations (taken_over p s) ≡ []
 taken_none p s = go (is_catch_body p)
   where
     go : (b : Bool) → declarations (cond b (takes_over (innermost p.chain).number s.number ∷ []) []) ≡ []

@@ -17,6 +17,7 @@ pub mod BackAllowed
 pub mod AloneConflicts
 pub mod AloneErrors
 pub mod KeptSymbols
+pub mod SharedFlags
 pub mod NamespaceLooks
 pub mod NamespaceNames
 pub mod FreshNames
@@ -30,5 +31,8 @@ pub mod FreeReferences
 pub mod LastStep
 pub mod KeptErrors
 pub mod ToldSteps
+pub mod TopChains
+pub mod TopImports
 pub mod RootImports
+pub mod BoundImports
 pub mod AllErrors

@@ -1,8 +1,7 @@
 -- Roots that bind imports bind them alike.
-use Rattle.std.proofs.Common.{◌≡◌, ◌↔◌, ℕ, suc, ◌+◌, ◌≤◌, ◌==◌, List, [], ◌∷◌, Bool, true, false, not, ◌&&◌, cond, Some, inl, inr, ◌⊎◌, refl, sym, ap, ◌∙◌, map, arith, eq-eqb}
+use Rattle.std.proofs.Common.{◌≡◌, ◌↔◌, ℕ, suc, ◌+◌, ◌≤◌, ◌==◌, List, [], ◌∷◌, Bool, true, false, cond, Some, inl, inr, ◌⊎◌, refl, sym, ap, ◌∙◌, map, arith, eq-eqb}
 use Rattle.std.specs.Prelude.{slice_get, filter}
 use Rattle.std.proofs.lemmas.Bool.Decides.{eqb_tells}
-use Rattle.semantic_syntax.specs.SourceTypes.{is_module, is_typescript}
 use Rattle.semantic_syntax.specs.Tables.{Symbol, Bindings}
 use Rattle.semantic_tree.specs.Tree.{Tree}
 use Rattle.semantic_model.specs.Binding.{Binding, bound_by}
@@ -16,8 +15,16 @@ use Rattle.semantic_model.proofs.bindings.Owned.{kept_program}
 use Rattle.semantic_model.proofs.bindings.Owners.{bound_times}
 use Rattle.semantic_model.proofs.fold.Orders.{HasForm}
 use Rattle.check_model.specs.Exports.{is_import_value}
-use Rattle.renaming_laws.specs.KeptImports.{symbols_at_top, KeepsImports}
+use Rattle.renaming_laws.specs.LeavesRules.{asks_of_imports}
 use Rattle.renaming_laws.proofs.SeenSymbols.{BoundAlike}
+
+-- the symbols that the root scope binds
+abbrev pub symbols_at_top : Tree → List ℕ
+symbols_at_top p = map (λ b. b.1) (bound_by (run start (events (steps p))).bindings 0)
+
+-- where a rule asks for imports, the root binds in both programs the same symbols that are imports and values
+abbrev pub KeepsImports : Tree → Tree → Type 0
+KeepsImports p q = asks_of_imports p.source_type ≡ true → (r : ℕ) (y : Symbol) → slice_get (tables_of p).symbols r ≡ Some y → is_import_value y.flags.bits ≡ true → Among r (symbols_at_top p) ↔ Among r (symbols_at_top q)
 
 -- ---- a number that stands in a list once
 
@@ -80,7 +87,7 @@ alike_from : (ns ms : List ℕ) (n : ℕ) (ys : List Symbol) → ((r k : ℕ) (y
 alike_from ns ms n [] h = tt
 alike_from ns ms n (y ∷ ys) h = (λ e. h n 0 y (omega arith) refl e, alike_from ns ms (n + 1) ys (λ r k a e f g. h r (suc k) a (omega (arith, e)) f g))
 
-pub roots_alike : (p q : Tree) → HasForm p → HasForm q → KeepsImports p q → (not (is_typescript p.source_type) && is_module p.source_type) ≡ true → BoundAlike (symbols_at_top p) (symbols_at_top q) 0 (tables_of p).symbols
+pub roots_alike : (p q : Tree) → HasForm p → HasForm q → KeepsImports p q → asks_of_imports p.source_type ≡ true → BoundAlike (symbols_at_top p) (symbols_at_top q) 0 (tables_of p).symbols
 roots_alike p q form form' kept asked =
     alike_from (symbols_at_top p) (symbols_at_top q) 0 (tables_of p).symbols (λ r k y e f g.
     let at : k ≡ r = omega (arith, e) in

@@ -128,7 +128,7 @@ module _ (f : Name → Name) where
       ∙ sym (namespace_between x w.between w.left sx) ∙ ap (λ s. namespace_row s w.between) same ∙ namespace_between y w.between w.right sy
       ∙ ap (λ j. ren f (declared_by j y)) k'
 
-  declared_twins : (x y : Place) → Twins x y → state_at (entering x) ≡ state_at (entering y) → ren f (declared_on_entering x) ≡ ren f (declared_on_entering y)
+  pub declared_twins : (x y : Place) → Twins x y → state_at (entering x) ≡ state_at (entering y) → ren f (declared_on_entering x) ≡ ren f (declared_on_entering y)
   declared_twins x y w e = go (same_kind x.node.kind kind.TSNamespaceDeclaration) refl
     where
       go : (b : Bool) → same_kind x.node.kind kind.TSNamespaceDeclaration ≡ b → ren f (declared_on_entering x) ≡ ren f (declared_on_entering y)
@@ -137,10 +137,10 @@ module _ (f : Name → Name) where
           sym (entering_same f x w.between w.left k)
           ∙ entering_same f y w.between w.right (ap (λ j. same_kind j kind.TSNamespaceDeclaration) (sym (same_kinds x y w)) ∙ k)
 
-  inside_twins : (x y : Place) (own : OpenScope) → Twins x y → ren f (declared_on_opening x own) ≡ ren f (declared_on_opening y own)
+  pub inside_twins : (x y : Place) (own : OpenScope) → Twins x y → ren f (declared_on_opening x own) ≡ ren f (declared_on_opening y own)
   inside_twins x y own w = sym (opening_same f x w.between own w.left) ∙ opening_same f y w.between own w.right
 
-  taken_twins : (x y : Place) (s : OpenScope) → Twins x y → taken_over x s ≡ taken_over y s
+  pub taken_twins : (x y : Place) (s : OpenScope) → Twins x y → taken_over x s ≡ taken_over y s
   taken_twins x y s w = sym (taken_between x w.between s w.left) ∙ taken_between y w.between s w.right
     where
       taken_between : (p q : Place) (o : OpenScope) → SamePlace f p q → taken_over q o ≡ taken_over p o
@@ -150,7 +150,7 @@ module _ (f : Name → Name) where
 
 -- ---- events
 
-abbrev unnamed_all : List Declaration → List Declaration
+abbrev pub unnamed_all : List Declaration → List Declaration
 unnamed_all ds = ren nameless ds
 
 all_twins : (ds es new old : List Declaration) → unnamed_all new ≡ unnamed_all old → TwinEvents (declares_all ds new) (declares_all es old)

@@ -6,5 +6,6 @@ pub mod AskedNames
 pub mod LookedUp
 pub mod KeptSignatures
 pub mod NewNames
-pub mod KeptImports
 pub mod KeptSoFar
+pub mod ImportsAtTop
+pub mod LeavesRules

@@ -10,7 +10,7 @@ ghost use Rattle.semantic_model.specs.TablesOf.{tables_of, made_of};
 ghost use Rattle.program_laws.specs.SameAnalysis.{conflicts_of};
 ghost use Rattle.rename_model.specs.Alone.{BelongsTo, IsUnused};
 ghost use Rattle.rename_model.specs.Refusal.{rename};
-ghost use Rattle.renaming_laws.specs.InBlocks.{ShareFlags};
+ghost use Rattle.renaming_laws.specs.InBlocks.{ShareFlags, NoneMoves};
 ghost use Rattle.swapped_checks.specs.SwappedPrograms.{holds_within};
 ghost use Rattle.renaming_laws.specs.LookedUp.{exports_neither};
 ghost use Rattle.renaming_laws.specs.KeptDeclarations.{KeepsDeclarations};
@@ -58,6 +58,16 @@ pub fn a_renaming_keeps_declarations_so_far()
         → rename p s new ≡ Ok q → namespace_states (steps q) ≡ namespace_states (steps p)
         → ShareFlags (made_of p) → ShareFlags (made_of q)
         → KeepsSoFar p q s new n }
+{}
+
+/// Where no function of the program moves out of its block, as none does in TypeScript and in strict code, the declarations of the
+/// renamed program go the same ways. So the condition on variables in blocks need be seen of the program alone.
+pub fn variables_go_on_sharing_flags()
+    ensures { (p q : Tree) (s : ℕ) (y : Symbol) (new : Name) → first_fault p ≡ None
+        → IsNumbered p.root → slice_get (tables_of p).symbols s ≡ Some y
+        → rename p s new ≡ Ok q → namespace_states (steps q) ≡ namespace_states (steps p)
+        → NoneMoves p → ShareFlags (made_of p)
+        → ShareFlags (made_of q) }
 {}
 
 /// Where every node with the name of a symbol belongs to it, that name is neither `arguments` nor `eval`, and no node has the

@@ -13,9 +13,8 @@ ghost use Rattle.rename_model.specs.Alone.{BelongsTo, IsUnused};
 ghost use Rattle.rename_model.specs.Refusal.{rename};
 ghost use Rattle.rename_model.specs.Renamed.{bears_name};
 ghost use Rattle.rename_model.specs.WithName.{sheds};
-ghost use Rattle.renaming_laws.specs.KeptImports.{KeepsImports};
 ghost use Rattle.renaming_laws.specs.InBlocks.{ShareFlags};
-ghost use Rattle.renaming_laws.specs.KeptSignatures.{keeps_signature};
+ghost use Rattle.renaming_laws.specs.LeavesRules.{LeavesRules};
 ghost use Rattle.renaming_laws.specs.LookedUp.{exports_neither};
 ghost use Rattle.renaming_laws.specs.NewNames.{instead};
 ghost use Rattle.renaming_laws.specs.WrittenOut.{written_out};
@@ -47,33 +46,25 @@ pub fn a_name_of_one_symbol_keeps_early_errors()
 {}
 
 /// A renaming keeps the diagnostics of a program, early errors too, in the same order and at the same places, whatever else has the
-/// old name or the new one: each is the same one, or is told of the new name where it was told of the old one. Neither name is a word
-/// of the rules. Declarations have to stay, under the conditions under which conflicts do. Three further conditions hold where a parser
-/// made the tree: no property in short of the symbol has the key `__proto__`, no signature has a parameter of the symbol beside another
-/// one of either name, and a module in JavaScript binds at its top the same imports that are values.
+/// old name or the new one: each is the same one, or is told of the new name where it was told of the old one. Declarations have to
+/// stay, under the conditions under which conflicts do, and what the rules ask for is left alone: neither name is one of their words.
+/// What else they ask for is so in each tree that a parser makes.
 pub fn a_renaming_keeps_early_errors()
     ensures kept { (p q : Tree) (s : ℕ) (y : Symbol) (new : Name) (checks : Bool)
         → first_fault p ≡ None → IsNumbered p.root → slice_get (tables_of p).symbols s ≡ Some y
-        → is_rule_word y.name ≡ false → is_rule_word new ≡ false
-        → holds_within (keeps_prototype (sheds (bears_name (analysis_of p) s))) p.root ≡ true
-        → holds_within (keeps_signature (bears_name (analysis_of p) s) y.name new) p.root ≡ true
-        → rename p s new ≡ Ok q → namespace_states (steps q) ≡ namespace_states (steps p)
-        → ShareFlags (made_of p) → ShareFlags (made_of q) → KeepsImports p q
+        → LeavesRules p s y.name new → rename p s new ≡ Ok q
+        → namespace_states (steps q) ≡ namespace_states (steps p)
+        → ShareFlags (made_of p) → ShareFlags (made_of q)
         → AreToldAgain (instead y.name new) (diagnostics_of checks p) (diagnostics_of checks q) }
     ensures without_namespaces { (p q : Tree) (s : ℕ) (y : Symbol) (new : Name) (checks : Bool)
         → first_fault p ≡ None → IsNumbered p.root → slice_get (tables_of p).symbols s ≡ Some y
-        → is_rule_word y.name ≡ false → is_rule_word new ≡ false
-        → holds_within (keeps_prototype (sheds (bears_name (analysis_of p) s))) p.root ≡ true
-        → holds_within (keeps_signature (bears_name (analysis_of p) s) y.name new) p.root ≡ true
-        → rename p s new ≡ Ok q → namespace_states (steps p) ≡ [] → ShareFlags (made_of p)
-        → ShareFlags (made_of q) → KeepsImports p q
+        → LeavesRules p s y.name new → rename p s new ≡ Ok q
+        → namespace_states (steps p) ≡ [] → ShareFlags (made_of p) → ShareFlags (made_of q)
         → AreToldAgain (instead y.name new) (diagnostics_of checks p) (diagnostics_of checks q) }
     ensures unexported { (p q : Tree) (s : ℕ) (y : Symbol) (new : Name) (checks : Bool)
         → first_fault p ≡ None → IsNumbered p.root → slice_get (tables_of p).symbols s ≡ Some y
-        → is_rule_word y.name ≡ false → is_rule_word new ≡ false
-        → holds_within (keeps_prototype (sheds (bears_name (analysis_of p) s))) p.root ≡ true
-        → holds_within (keeps_signature (bears_name (analysis_of p) s) y.name new) p.root ≡ true
-        → rename p s new ≡ Ok q → holds_within (exports_neither y.name new) p.root ≡ true
-        → ShareFlags (made_of p) → ShareFlags (made_of q) → KeepsImports p q
+        → LeavesRules p s y.name new → rename p s new ≡ Ok q
+        → holds_within (exports_neither y.name new) p.root ≡ true
+        → ShareFlags (made_of p) → ShareFlags (made_of q)
         → AreToldAgain (instead y.name new) (diagnostics_of checks p) (diagnostics_of checks q) }
 {}
