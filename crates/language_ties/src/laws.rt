@@ -1,11 +1,12 @@
 //! Laws over what ECMAScript binds and what the tables say.
-ghost use Rattle.std.specs.Prelude.{◌≡◌, true, false, None, [], bytes_eq, codes};
+ghost use Rattle.std.specs.Prelude.{◌≡◌, true, false, None, [], ◌∷◌, bytes_eq, codes};
 ghost use Rattle.semantic_syntax.specs.Tables.{Name};
 ghost use Rattle.semantic_tree.specs.Faults.{first_fault};
 ghost use Rattle.semantic_tree.specs.Tree.{Tree, IsNumbered};
 ghost use Rattle.semantic_model.specs.Event.{declarations, events};
 ghost use Rattle.semantic_model.specs.Step.{steps};
 ghost use Rattle.tangle_model.specs.Tangled.{tangle_reasons};
+ghost use Rattle.tangle_model.specs.declared.reason.Reason.TheVariants as reason;
 ghost use Rattle.language_ties.specs.AgreeingNames.{AgreesApart, AgreesOutsideWith, AgreesPastObjects, AllStandApart, IsBoundPlainly, IsPlainName, IsReadOutsideWith};
 ghost use Rattle.language_ties.specs.Agreement.{differing};
 ghost use Rattle.language_ties.specs.ClearNames.{IsBoundOnce, StaysInside};
@@ -131,12 +132,17 @@ pub fn references_stand_in_expressions()
 
 /// Of a name that isn't tangled, and that the program binds so, tables and language agree on each reference. That it isn't
 /// tangled says that no reference of it stands in a `with`, that no `var` of it passes a clause whose plain parameter it is, and
-/// that it isn't `arguments`. Blocks and functions in a `with` may declare it. That keys are marked is left to the program: each
-/// source has it so.
+/// that it isn't `arguments`. Blocks and functions in a `with` may declare it. Where it is tangled by a `with` alone, they agree on
+/// what it means if the object hasn't it. That keys are marked is left to the program: each source has it so.
 pub fn untangled_names_agree()
-    ensures { (p : Tree) (name : Name) → first_fault p ≡ None → is_ecmascript p ≡ true
+    ensures untangled { (p : Tree) (name : Name) → first_fault p ≡ None → is_ecmascript p ≡ true
         → IsNumbered p.root
         → keys_are_marked p.root.children ≡ true → tangle_reasons p name ≡ []
         → IsBoundPlainly p name → has_clash p name ≡ false
         → differing p name ≡ [] }
+    ensures by_with { (p : Tree) (name : Name) → first_fault p ≡ None → is_ecmascript p ≡ true
+        → IsNumbered p.root
+        → keys_are_marked p.root.children ≡ true → tangle_reasons p name ≡ reason.With ∷ []
+        → IsBoundPlainly p name → has_clash p name ≡ false
+        → AgreesPastObjects p name }
 {}
