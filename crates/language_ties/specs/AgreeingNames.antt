@@ -66,20 +66,10 @@ StandsInExpressions bs name child (f ∷ path) =
     → has_parameter_expressions f ≡ true)
     × StandsInExpressions bs name f path
 
--- a reference of the name stands in no `with`, and where it stands among parameters, in an expression
-abbrev pub StandsApart : Tree → Name → Place → Type 0
-StandsApart p name q =
-    (in_with_under q.path ≡ false) × StandsInExpressions (written p.source_type (steps p)) name q.node q.path
-
--- each does
-abbrev pub AllStandApart : Tree → Name → Type 0
-AllStandApart p name =
-    (q : Place) → Among (entering q) (steps p) → is kind.IdentifierReference q.node ≡ true → q.node.text ≡ name → StandsApart p name q
-
--- tables and language agree on each reference of the name that stands so
-abbrev pub AgreesApart : Tree → Name → Type 0
-AgreesApart p name =
-    (q : Place) → Among (entering q) (steps p) → is kind.IdentifierReference q.node ≡ true → q.node.text ≡ name → StandsApart p name q → use_agrees (analysis_of p) (bound_of p) (use_at q) ≡ true
+-- each reference of the name stands so
+abbrev pub AllStandInExpressions : Tree → Name → Type 0
+AllStandInExpressions p name =
+    (q : Place) → Among (entering q) (steps p) → is kind.IdentifierReference q.node ≡ true → q.node.text ≡ name → StandsInExpressions (written p.source_type (steps p)) name q.node q.path
 
 -- no `with` holds a reference of the name
 abbrev pub IsReadOutsideWith : Tree → Name → Type 0
@@ -89,8 +79,7 @@ IsReadOutsideWith p name =
 -- tables and language agree on each that no `with` holds
 abbrev pub AgreesOutsideWith : Tree → Name → Type 0
 AgreesOutsideWith p name =
-    (q : Place) → Among (entering q) (steps p) → is kind.IdentifierReference q.node ≡ true → q.node.text ≡ name → in_with_under q.path ≡ false
-    → use_agrees (analysis_of p) (bound_of p) (use_at q) ≡ true
+    (q : Place) → Among (entering q) (steps p) → is kind.IdentifierReference q.node ≡ true → q.node.text ≡ name → in_with_under q.path ≡ false → use_agrees (analysis_of p) (bound_of p) (use_at q) ≡ true
 
 -- so they do on each reference, if no object of a `with` has the name
 abbrev pub AgreesPastObjects : Tree → Name → Type 0

@@ -34,11 +34,22 @@ is_made_for k e = same_environment_kind e.kind k
 abbrev pub made_for : EnvironmentKind → Node → Environment
 made_for k x = record { kind = k; maker = x.node_id }
 
--- whether parameters have an expression: an initializer or a computed key (15.1.2, ContainsExpression)
+-- whether a reference stands in the forest
+abbrev pub refers : Forest → Bool
+refers nothing = false
+refers (tree r k span text marks below id after) = same_kind k kind.IdentifierReference || refers below || refers after
+
+-- whether one stands in the key of a property with these children
+abbrev pub key_refers : Forest → Bool
+key_refers nothing = false
+key_refers (tree r k span text marks below id after) =
+    (same_role r role.Key && (same_kind k kind.IdentifierReference || refers below)) || key_refers after
+
+-- whether parameters have an expression: an initializer or a computed key, which is marked as one or refers (15.1.2, ContainsExpression)
 abbrev pub contains_expression : Forest → Bool
 contains_expression nothing = false
 contains_expression (tree r k span text marks below id after) =
-    same_role r role.Initializer || same_kind k kind.AssignmentPattern || (same_kind k kind.BindingProperty && has_mark marks mark.Computed)
+    same_role r role.Initializer || same_kind k kind.AssignmentPattern || (same_kind k kind.BindingProperty && (has_mark marks mark.Computed || key_refers below))
     || contains_expression below || contains_expression after
 
 abbrev pub has_parameter_expressions : Node → Bool

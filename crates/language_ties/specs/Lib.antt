@@ -14,4 +14,3 @@ pub mod NearestScopes
 pub mod OneSymbol
 pub mod ClearNames
 pub mod AgreeingNames
-pub mod MarkedKeys

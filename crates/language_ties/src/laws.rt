@@ -1,12 +1,13 @@
 //! Laws over what ECMAScript binds and what the tables say.
-ghost use Rattle.std.specs.Prelude.{◌≡◌, true, false, None, [], bytes_eq, codes};
+ghost use Rattle.std.specs.Prelude.{◌≡◌, true, false, None, [], ◌∷◌, bytes_eq, codes};
 ghost use Rattle.semantic_syntax.specs.Tables.{Name};
 ghost use Rattle.semantic_tree.specs.Faults.{first_fault};
 ghost use Rattle.semantic_tree.specs.Tree.{Tree, IsNumbered};
 ghost use Rattle.semantic_model.specs.Event.{declarations, events};
 ghost use Rattle.semantic_model.specs.Step.{steps};
 ghost use Rattle.tangle_model.specs.Tangled.{tangle_reasons};
-ghost use Rattle.language_ties.specs.AgreeingNames.{AgreesApart, AgreesOutsideWith, AgreesPastObjects, AllStandApart, IsBoundPlainly, IsPlainName, IsReadOutsideWith};
+ghost use Rattle.tangle_model.specs.declared.reason.Reason.TheVariants as reason;
+ghost use Rattle.language_ties.specs.AgreeingNames.{AgreesOutsideWith, AgreesPastObjects, AllStandInExpressions, IsBoundPlainly, IsPlainName, IsReadOutsideWith};
 ghost use Rattle.language_ties.specs.Agreement.{differing};
 ghost use Rattle.language_ties.specs.ClearNames.{IsBoundOnce, StaysInside};
 ghost use Rattle.language_ties.specs.EarlyErrors.{has_clash};
@@ -14,7 +15,6 @@ ghost use Rattle.language_ties.specs.ToldNames.{DeclarationsAreBound, NamesAreBo
 ghost use Rattle.language_ties.specs.EcmaScript.{is_ecmascript};
 ghost use Rattle.language_ties.specs.Environments.{Environment};
 ghost use Rattle.language_ties.specs.Meaning.{identifiers_in};
-ghost use Rattle.language_ties.specs.MarkedKeys.{keys_are_marked};
 ghost use Rattle.language_ties.specs.Moved.{bound_of};
 ghost use Rattle.language_ties.specs.NearestScopes.{AreTiedNearest};
 ghost use Rattle.language_ties.specs.OneSymbol.{EnvironmentsHaveOneSymbol};
@@ -102,41 +102,37 @@ pub fn names_keep_clear()
 /// nothing else of the name is bound on the way of that variable: each reference is tied to the one symbol of all by which the
 /// innermost environment binds the name that binds it at all, and free where none does, in headers of functions and clauses, too. In
 /// a `with` its object may have the name; they agree there on what the name means if it hasn't.
-/// Left out are references among parameters without an expression of a function that binds the name, which no source has: where
-/// computed keys are marked, none stands so (`references_stand_in_expressions`).
 pub fn plain_names_agree()
-    ensures each { (p : Tree) (name : Name) → first_fault p ≡ None → is_ecmascript p ≡ true
+    ensures outside { (p : Tree) (name : Name) → first_fault p ≡ None → is_ecmascript p ≡ true
         → IsNumbered p.root → bytes_eq name (codes "arguments") ≡ false
-        → IsPlainName p name → has_clash p name ≡ false → AgreesApart p name }
+        → IsPlainName p name → has_clash p name ≡ false → AgreesOutsideWith p name }
     ensures none { (p : Tree) (name : Name) → first_fault p ≡ None → is_ecmascript p ≡ true
         → IsNumbered p.root → bytes_eq name (codes "arguments") ≡ false
-        → IsPlainName p name → has_clash p name ≡ false → AllStandApart p name
+        → IsPlainName p name → has_clash p name ≡ false → IsReadOutsideWith p name
         → differing p name ≡ [] }
-    ensures marked { (p : Tree) (name : Name) → first_fault p ≡ None → is_ecmascript p ≡ true
-        → IsNumbered p.root → bytes_eq name (codes "arguments") ≡ false
-        → IsPlainName p name → has_clash p name ≡ false → keys_are_marked p.root.children ≡ true
-        → AgreesOutsideWith p name }
     ensures past_objects { (p : Tree) (name : Name) → first_fault p ≡ None → is_ecmascript p ≡ true
         → IsNumbered p.root → bytes_eq name (codes "arguments") ≡ false
-        → IsPlainName p name → has_clash p name ≡ false → keys_are_marked p.root.children ≡ true
-        → AgreesPastObjects p name }
+        → IsPlainName p name → has_clash p name ≡ false → AgreesPastObjects p name }
 {}
 
-/// Where computed keys of patterns are marked, a reference that stands among the parameters of a function stands in an
-/// expression: the parameters have an initializer, a default or a computed key. So a reference outside of `with` stands apart.
+/// A reference that stands among the parameters of a function stands in an expression: the parameters have an initializer, a default
+/// or a computed key.
 pub fn references_stand_in_expressions()
     ensures { (p : Tree) (name : Name) → first_fault p ≡ None → is_ecmascript p ≡ true
-        → keys_are_marked p.root.children ≡ true → IsReadOutsideWith p name → AllStandApart p name }
+        → AllStandInExpressions p name }
 {}
 
 /// Of a name that isn't tangled, and that the program binds so, tables and language agree on each reference. That it isn't
 /// tangled says that no reference of it stands in a `with`, that no `var` of it passes a clause whose plain parameter it is, and
-/// that it isn't `arguments`. Blocks and functions in a `with` may declare it. That keys are marked is left to the program: each
-/// source has it so.
+/// that it isn't `arguments`. Blocks and functions in a `with` may declare it. Where it is tangled by a `with` alone, they agree on
+/// what it means if the object hasn't it.
 pub fn untangled_names_agree()
-    ensures { (p : Tree) (name : Name) → first_fault p ≡ None → is_ecmascript p ≡ true
-        → IsNumbered p.root
-        → keys_are_marked p.root.children ≡ true → tangle_reasons p name ≡ []
+    ensures untangled { (p : Tree) (name : Name) → first_fault p ≡ None → is_ecmascript p ≡ true
+        → IsNumbered p.root → tangle_reasons p name ≡ []
         → IsBoundPlainly p name → has_clash p name ≡ false
         → differing p name ≡ [] }
+    ensures by_with { (p : Tree) (name : Name) → first_fault p ≡ None → is_ecmascript p ≡ true
+        → IsNumbered p.root → tangle_reasons p name ≡ reason.With ∷ []
+        → IsBoundPlainly p name → has_clash p name ≡ false
+        → AgreesPastObjects p name }
 {}

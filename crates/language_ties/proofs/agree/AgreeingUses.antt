@@ -26,8 +26,9 @@ use Rattle.semantic_model.proofs.form.Clauses.{kind_is}
 use Rattle.semantic_model.proofs.lists.Members.{among_at}
 use Rattle.semantic_model.proofs.once.HeadersEndOnce.{IsEntered}
 use Rattle.semantic_model.proofs.once.ListedUnder.{tie_for, nth_tie}
-use Rattle.language_ties.specs.Agreement.{is_symbol, is_none, is_tied_as_bound, agrees, use_agrees_past_objects}
-use Rattle.language_ties.specs.AgreeingNames.{IsPlainName, AgreesApart, StandsInExpressions}
+use Rattle.language_ties.specs.Agreement.{is_symbol, is_none, is_tied_as_bound, agrees, use_agrees, use_agrees_past_objects}
+use Rattle.tangle_model.specs.Surroundings.{in_with_under}
+use Rattle.language_ties.specs.AgreeingNames.{IsPlainName, StandsInExpressions}
 use Rattle.language_ties.specs.EcmaScript.{is_ecmascript}
 use Rattle.language_ties.specs.Environments.{environments}
 use Rattle.language_ties.specs.Meaning.{Meaning, unbound, of_object, bound, meaning_past_objects, use_at}
@@ -176,6 +177,7 @@ module _ (p : Tree) where
         subst (λ y. agrees (analysis_of p) q.node.node_id (meaning_past_objects (bound_of p) (environments q.node q.path) y) ≡ true) (sym n)
         (fits_agree q.node.node_id (nearest_symbol (run start (events (steps p))) (events (steps p)) x q.chain) (meaning_past_objects (bound_of p) (environments q.node q.path) x) (tied_here q a k n) agree)
 
-    pub agrees_apart : AgreesApart p x
-    agrees_apart q a k n i =
-        subst (λ m. agrees (analysis_of p) q.node.node_id m ≡ true) (sym (same_outside (bound_of p) q.node.text q.node q.path i.0)) (agrees_past_objects q a k n i.1)
+    -- outside of `with` there is none
+    pub agrees_outside : (q : Place) → Among (entering q) (steps p) → is kind.IdentifierReference q.node ≡ true → q.node.text ≡ x → in_with_under q.path ≡ false → StandsInExpressions (written p.source_type (steps p)) x q.node q.path → use_agrees (analysis_of p) (bound_of p) (use_at q) ≡ true
+    agrees_outside q a k n w i =
+        subst (λ m. agrees (analysis_of p) q.node.node_id m ≡ true) (sym (same_outside (bound_of p) q.node.text q.node q.path w)) (agrees_past_objects q a k n i)

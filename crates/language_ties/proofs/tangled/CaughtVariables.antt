@@ -30,7 +30,7 @@ use Rattle.program_laws.proofs.DeclaredNodes.{among_map, among_flat}
 use Rattle.tangle_model.specs.Mention.{Mention, same_declarer, noted_if, identifier_noted, noted_by, noted_at, mentions}
 use Rattle.tangle_model.specs.Repeated.{Key, same_key, is_mention_of, key_of, keys_of, key_stands}
 use Rattle.tangle_model.specs.Surroundings.{is_home, home_under, in_catch_under, in_with_under, declarer_in, declarer_under, around_under}
-use Rattle.tangle_model.specs.Tangled.{meets_catch_name, any_mention, tangle_reasons}
+use Rattle.tangle_model.specs.Tangled.{meets_catch_name, any_mention}
 use Rattle.tangle_model.specs.declared.around.Around.{Around}
 use Rattle.tangle_model.specs.declared.around.Declarer.{Declarer}
 use Rattle.tangle_model.specs.declared.around.Declarer.TheVariants as declarer
@@ -50,7 +50,7 @@ use Rattle.language_ties.proofs.caught.InClauses.{IsInClause, in_clause}
 use Rattle.language_ties.proofs.symbols.OneSymbol.{of_map, of_flat, each_at}
 use Rattle.language_ties.proofs.tangled.NamePlaces.{is_inner_pattern, holds_names, Reaches, IsNamePlace, names_below, IsEnteredAs, AllEnteredAs, IsAmidSteps, AmidAt, amid_program, NamesStandAt, stand_program}
 use Rattle.language_ties.proofs.tangled.PassedClauses.{IsHeldBy, held_by}
-use Rattle.language_ties.proofs.tangled.Untangled.{any_of, holds_not}
+use Rattle.language_ties.proofs.tangled.Untangled.{NoneButWith, any_of, holds_not}
 
 never : true ≡ false → ⊥
 never h = absurd cc
@@ -262,7 +262,7 @@ module _ (p : Tree) (h : first_fault p ≡ None) (e : is_ecmascript p ≡ true) 
 
   -- ---- the name
 
-  module _ (name : Name) (untangled : tangle_reasons p name ≡ []) (b c : Bound) (b_among : Among b (written p.source_type (steps p))) (c_among : Among c (written p.source_type (steps p))) (b_named : b.name ≡ name) (c_named : c.name ≡ name) (caught : is_bound_as way.CatchName b ≡ true) (var : is_bound_as way.Var c ≡ true) (passes : Among b.environment c.passed) where
+  module _ (name : Name) (untangled : NoneButWith p name) (b c : Bound) (b_among : Among b (written p.source_type (steps p))) (c_among : Among c (written p.source_type (steps p))) (b_named : b.name ≡ name) (c_named : c.name ≡ name) (caught : is_bound_as way.CatchName b ≡ true) (var : is_bound_as way.Var c ≡ true) (passes : Among b.environment c.passed) where
     at_name : IsBoundAt p.source_type (steps p) b
     at_name = bound_at_place p.source_type (steps p) b b_among
 
@@ -366,6 +366,6 @@ module _ (p : Tree) (h : first_fault p ≡ None) (e : is_ecmascript p ≡ true) 
 
 -- ---- what is plain by what the name's being untangled leaves out
 
-module _ (p : Tree) (h : first_fault p ≡ None) (e : is_ecmascript p ≡ true) (numbered : IsNumbered p.root) (name : Name) (untangled : tangle_reasons p name ≡ []) (each : IsBoundPlainly p name) where
+module _ (p : Tree) (h : first_fault p ≡ None) (e : is_ecmascript p ≡ true) (numbered : IsNumbered p.root) (name : Name) (untangled : NoneButWith p name) (each : IsBoundPlainly p name) where
   pub plain_name : IsPlainName p name
   plain_name = record { each = λ b a n. inl (each b a n); unpassed = λ b c i j n m k var passes. passes_not p h e numbered name untangled b c i j n m k var passes }

@@ -21,7 +21,7 @@ use Rattle.program_laws.proofs.DeclaredNodes.{among_map}
 use Rattle.tangle_model.specs.Mention.{Mention, noted, noted_if, function_noted, is_block_function, noted_at, mentions}
 use Rattle.tangle_model.specs.Repeated.{Key, same_key, is_mention_of, key_of, keys_of, key_stands, repeats}
 use Rattle.tangle_model.specs.Surroundings.{home_under, around_under}
-use Rattle.tangle_model.specs.Tangled.{meets_declaration, any_mention, tangle_reasons}
+use Rattle.tangle_model.specs.Tangled.{meets_declaration, any_mention}
 use Rattle.tangle_model.specs.declared.reason.Reason.TheVariants as reason
 use Rattle.tangle_model.specs.declared.what.What.TheVariants as what
 use Rattle.language_ties.specs.AgreeingNames.{leaves_block, crossed, IsAlone}
@@ -41,7 +41,7 @@ use Rattle.language_ties.proofs.own_names.OwnIds.{named_once}
 use Rattle.language_ties.proofs.symbols.OneSymbol.{of_map, of_flat, each_at}
 use Rattle.language_ties.proofs.tangled.HomesRound.{IsMadeInHome, IsOwnBody, InHome}
 use Rattle.language_ties.proofs.tangled.NotedNames.{IsNoted, is_noted, Ways, declaration_ways, function_noted_there, same_of_one}
-use Rattle.language_ties.proofs.tangled.Untangled.{any_of, holds_not}
+use Rattle.language_ties.proofs.tangled.Untangled.{NoneButWith, any_of, holds_not}
 
 never : true ≡ false → ⊥
 never h = absurd cc
@@ -133,7 +133,7 @@ same_numbers a b w = elim (eqb_tells a b) [ inl i ↦ i.0 | inr i ↦ absurd (i.
 
 -- ---- the function
 
-module _ (p : Tree) (h : first_fault p ≡ None) (e : is_ecmascript p ≡ true) (numbered : IsNumbered p.root) (name : Name) (untangled : tangle_reasons p name ≡ []) where
+module _ (p : Tree) (h : first_fault p ≡ None) (e : is_ecmascript p ≡ true) (numbered : IsNumbered p.root) (name : Name) (untangled : NoneButWith p name) where
   abbrev ws : List Bound
   ws = written p.source_type (steps p)
 
