@@ -1,8 +1,7 @@
 //! Sets of names.
-ghost use Rattle.std.specs.Prelude.{◌≡◌, ◌<◌, [], ◌||◌, ℕ, List, bytes_eq, length, slice_index_or, OnOk};
+ghost use Rattle.std.specs.Prelude.{◌≡◌, ◌<◌, [], ◌∷◌, ◌++◌, ◌||◌, ℕ, List, bytes_eq, cond, length, slice_index_or, OnOk};
 ghost use Rattle.std.specs.List.{list_any};
 ghost use Rattle.std.specs.Str.{chars};
-ghost use Rattle.mangle_model.specs.OneNameEach.{joining};
 
 use indexmap::IndexSet;
 use std::alloc::{AllocError, Global};
@@ -35,7 +34,9 @@ impl NameSet {
 
     /// Adds a name behind the others, unless it is among them. The only error is want of memory.
     pub fn add(&mut self, alloc: Global, name: &str) -> Result<(), AllocError>
-        ensures joined { OnOk result (self.new ≡ joining self.old (chars name.now)) }
+        ensures joined { OnOk result (self.new
+            ≡ cond (list_any (bytes_eq (chars name.now)) self.old) self.old
+            (self.old ++ chars name.now ∷ [])) }
         ensures has { OnOk result ((q : List ℕ)
             → list_any (bytes_eq q) self.new
             ≡ (bytes_eq q (chars name.now) || list_any (bytes_eq q) self.old)) }

@@ -1,24 +1,23 @@
--- Names that are known, among texts in a set.
-use Rattle.std.proofs.Common.{◌≡◌, ◌+◌, ◌<◌, ◌≤◌, ℕ, List, [], ◌∷◌, ◌++◌, Bool, true, false, ◌||◌, if◌then◌else◌, String, map, refl, sym, ap, ◌∙◌, length, get_or, drop}
+-- Names among texts in a set.
+use Rattle.std.proofs.Common.{◌≡◌, ℕ, zero, suc, List, [], ◌∷◌, ◌++◌, Bool, true, false, ◌||◌, cond, if◌then◌else◌, Some, String, map, refl, sym, ap, ◌∙◌}
+use Rattle.std.specs.Prelude.{slice_get, slice_index_or}
 use Rattle.std.specs.List.{list_any}
 use Rattle.std.specs.Str.{bytes_eq, chars, IsUtf8}
 use Rattle.std.specs.String.{string_bytes}
-use Rattle.std.specs.declared.alloc.Global.{Global}
 use Rattle.std.proofs.lemmas.Str.{IsUtf8-string_bytes}
-use Rattle.std.proofs.lemmas.List.{at_drop_more, at_drop_all, map-append}
+use Rattle.std.proofs.lemmas.List.{map-append}
 use Rattle.std.proofs.lemmas.Slice.Eq.{bytes_eq-Decides}
 use Rattle.indexmap.specs.IndexSet.{insert_key}
 use Rattle.semantic_syntax.proofs.SameTexts.{same_texts}
 use Rattle.semantic_syntax.specs.Tables.{Name}
 use Rattle.semantic_syntax.proofs.Truth.{or_false}
-use Rattle.name_lint.specs.Known.{known_names}
-use Rattle.name_lint.specs.Undeclared.{is_known}
 
--- one or the other, in any order
-either_swaps : (a b c : Bool) → ((a || b) || c) ≡ (b || (a || c))
-either_swaps true true c = refl
-either_swaps true false c = refl
-either_swaps false b c = refl
+-- the name behind the others, unless it is one of them
+abbrev with_text : List Name → Name → List Name
+with_text names name = cond (list_any (bytes_eq name) names) names (names ++ name ∷ [])
+
+abbrev is_known : List Name → Name → Bool
+is_known names name = list_any (bytes_eq name) names
 
 known_append : (xs ys : List Name) (name : Name) → is_known (xs ++ ys) name ≡ (is_known xs name || is_known ys name)
 known_append [] ys name = refl
@@ -76,20 +75,20 @@ module _ {Z : Type 0} where
           ∙ ap (λ b. is_known (texts keys) name || b) (or_false (bytes_eq name (chars (string_bytes x))))
           ∙ swaps (is_known (texts keys) name) (bytes_eq name (chars (string_bytes x)))
 
--- the next word
-pub word_turn : (words : List (String Global)) (i : ℕ) (word : String Global) → i < length words → word ≡ get_or words i word → (known new : List Name) (name : Name)
-    → is_known new name ≡ (bytes_eq name (chars (string_bytes word)) || is_known known name)
-    → (is_known known name || is_known (known_names (drop i words)) name) ≡ is_known (known_names words) name
-    → (is_known new name || is_known (known_names (drop (i + 1) words)) name) ≡ is_known (known_names words) name
-word_turn words i word within is known new name grown h =
-    ap (λ b. b || is_known (known_names (drop (i + 1) words)) name) grown
-    ∙ either_swaps (bytes_eq name (chars (string_bytes word))) (is_known known name) (is_known (known_names (drop (i + 1) words)) name)
-    ∙ ap (λ (w : String Global). is_known known name || (bytes_eq name (chars (string_bytes w)) || is_known (known_names (drop (i + 1) words)) name)) is
-    ∙ ap (λ b. is_known known name || b) (sym (at_drop_more (λ (ws : List (String Global)). is_known (known_names ws) name) words i word within))
-    ∙ h
+  -- it stands behind the others, unless it is there
+  pub joined_more : (keys new : List (String Z)) (x : String Z) (word : List ℕ) → string_bytes x ≡ word → new ≡ insert_key (λ a b. bytes_eq (string_bytes a) (string_bytes b)) keys x → texts new ≡ with_text (texts keys) (chars word)
+  joined_more keys new x word is made =
+      ap texts made
+      ∙ go (list_any (λ k. bytes_eq (string_bytes x) (string_bytes k)) keys)
+      ∙ ap (λ b. cond b (texts keys) (texts keys ++ chars (string_bytes x) ∷ [])) (found_text keys (string_bytes x) (IsUtf8-string_bytes x))
+      ∙ ap (λ bytes. with_text (texts keys) (chars bytes)) is
+    where
+      go : (b : Bool) → texts (if b then keys else keys ++ x ∷ []) ≡ cond b (texts keys) (texts keys ++ chars (string_bytes x) ∷ [])
+      go true = refl
+      go false = map-append (λ k. chars (string_bytes k)) keys (x ∷ [])
 
--- no word is left
-pub words_end : (words : List (String Global)) (i : ℕ) → length words ≤ i → (known : List Name) (name : Name)
-    → (is_known known name || is_known (known_names (drop i words)) name) ≡ is_known (known_names words) name → is_known known name ≡ is_known (known_names words) name
-words_end words i within known name h =
-    sym (or_false (is_known known name)) ∙ ap (λ b. is_known known name || b) (sym (at_drop_all (λ (ws : List (String Global)). is_known (known_names ws) name) words i within)) ∙ h
+  -- the text at a place
+  pub named_at : (keys : List (String Z)) (i : ℕ) (k : String Z) → slice_get keys i ≡ Some k → chars (string_bytes k) ≡ slice_index_or (texts keys) i []
+  named_at [] i k e = absurd cc
+  named_at (x ∷ xs) zero k e = let same : x ≡ k = cc in ap (λ t. chars (string_bytes t)) (sym same)
+  named_at (x ∷ xs) (suc i) k e = named_at xs i k e
