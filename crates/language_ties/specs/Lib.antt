@@ -15,3 +15,4 @@ pub mod OneSymbol
 pub mod ClearNames
 pub mod AgreeingNames
 pub mod MarkedKeys
+pub mod Misplaced

@@ -6,7 +6,7 @@ ghost use Rattle.semantic_tree.specs.Tree.{Tree, IsNumbered};
 ghost use Rattle.semantic_model.specs.Event.{declarations, events};
 ghost use Rattle.semantic_model.specs.Step.{steps};
 ghost use Rattle.tangle_model.specs.Tangled.{tangle_reasons};
-ghost use Rattle.language_ties.specs.AgreeingNames.{AgreesApart, AgreesOutsideWith, AllStandApart, IsBoundOutsideWith, IsBoundPlainly, IsPlainName, IsReadOutsideWith};
+ghost use Rattle.language_ties.specs.AgreeingNames.{AgreesApart, AgreesOutsideWith, AllStandApart, IsBoundOutsideWith, IsPlainName, IsReadOutsideWith};
 ghost use Rattle.language_ties.specs.Agreement.{differing};
 ghost use Rattle.language_ties.specs.ClearNames.{IsBoundOnce, StaysInside};
 ghost use Rattle.language_ties.specs.EarlyErrors.{has_clash};
@@ -15,6 +15,7 @@ ghost use Rattle.language_ties.specs.EcmaScript.{is_ecmascript};
 ghost use Rattle.language_ties.specs.Environments.{Environment};
 ghost use Rattle.language_ties.specs.Meaning.{identifiers_in};
 ghost use Rattle.language_ties.specs.MarkedKeys.{keys_are_marked};
+ghost use Rattle.language_ties.specs.Misplaced.{has_misplaced};
 ghost use Rattle.language_ties.specs.Moved.{bound_of};
 ghost use Rattle.language_ties.specs.NearestScopes.{AreTiedNearest};
 ghost use Rattle.language_ties.specs.OneSymbol.{EnvironmentsHaveOneSymbol};
@@ -124,13 +125,15 @@ pub fn references_stand_in_expressions()
         → keys_are_marked p.root.children ≡ true → IsReadOutsideWith p name → AllStandApart p name }
 {}
 
-/// Of a name that isn't tangled, and that the program binds so, tables and language agree on each reference. That it isn't
-/// tangled says that no reference of it stands in a `with`, that no `var` of it passes a clause whose plain parameter it is, and
-/// that it isn't `arguments`. That keys are marked is left to the program: each source has it so.
+/// Of a name that isn't tangled, and that nothing in a `with` binds, tables and language agree on each reference. That it isn't
+/// tangled says that no reference of it stands in a `with`, that no `var` of it passes a clause whose plain parameter it is, that
+/// nothing else of it is bound on the way of a function that leaves its block, be it the body of an `if`, and that it isn't
+/// `arguments`. That keys are marked is left to the program: each source has it so. So are early errors: a `var` that clashes,
+/// and functions where no grammar has them.
 pub fn untangled_names_agree()
     ensures { (p : Tree) (name : Name) → first_fault p ≡ None → is_ecmascript p ≡ true
         → IsNumbered p.root
         → keys_are_marked p.root.children ≡ true → tangle_reasons p name ≡ []
-        → IsBoundOutsideWith p name → IsBoundPlainly p name → has_clash p name ≡ false
+        → IsBoundOutsideWith p name → has_misplaced p name ≡ false → has_clash p name ≡ false
         → differing p name ≡ [] }
 {}
