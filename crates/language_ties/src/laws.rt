@@ -10,7 +10,7 @@ ghost use Rattle.language_ties.specs.AgreeingNames.{AgreesApart, AgreesOutsideWi
 ghost use Rattle.language_ties.specs.Agreement.{differing};
 ghost use Rattle.language_ties.specs.ClearNames.{IsBoundOnce, StaysInside};
 ghost use Rattle.language_ties.specs.EarlyErrors.{has_clash};
-ghost use Rattle.language_ties.specs.ToldNames.{DeclarationsAreBound, NamesAreBound};
+ghost use Rattle.language_ties.specs.ToldNames.{DeclarationsAreBound, LeavingAreTold, NamesAreBound};
 ghost use Rattle.language_ties.specs.EcmaScript.{is_ecmascript};
 ghost use Rattle.language_ties.specs.Environments.{Environment};
 ghost use Rattle.language_ties.specs.Meaning.{identifiers_in};
@@ -18,7 +18,7 @@ ghost use Rattle.language_ties.specs.MarkedKeys.{keys_are_marked};
 ghost use Rattle.language_ties.specs.Misplaced.{has_misplaced};
 ghost use Rattle.language_ties.specs.Moved.{bound_of};
 ghost use Rattle.language_ties.specs.NearestScopes.{AreTiedNearest};
-ghost use Rattle.language_ties.specs.OneSymbol.{EnvironmentsHaveOneSymbol};
+ghost use Rattle.language_ties.specs.OneSymbol.{EnvironmentsHaveOneSymbol, VariablesHaveOneSymbol};
 ghost use Rattle.language_ties.specs.Scopes.{ScopesAreEnvironments};
 ghost use Rattle.language_ties.specs.SharedSymbols.{AllKeepClear, ShareSymbols};
 ghost use Rattle.language_ties.specs.StrictCode.{StrictnessAgrees};
@@ -38,10 +38,12 @@ pub fn strictness_agrees()
 {}
 
 /// What the tables are told to declare at a node of an ECMAScript program, outside of `with`, is what the language binds there:
-/// the same identifiers and names in the same order, each in the scope of the node that makes its environment. Functions that may
-/// leave their blocks are left out: those that have a variable beside, and those that are the body of an `if`.
+/// the same identifiers and names in the same order, each in the scope of the node that makes its environment. Of functions that
+/// leave their blocks, since they have a variable beside, it is that variable, be they the body of an `if`. Left out are bodies
+/// of `if` without such a variable, which other checks refuse.
 pub fn declarations_are_bound()
-    ensures { (p : Tree) → first_fault p ≡ None → is_ecmascript p ≡ true → DeclarationsAreBound p }
+    ensures staying { (p : Tree) → first_fault p ≡ None → is_ecmascript p ≡ true → DeclarationsAreBound p }
+    ensures leaving { (p : Tree) → first_fault p ≡ None → is_ecmascript p ≡ true → IsNumbered p.root → LeavingAreTold p }
 {}
 
 /// Everywhere in such a program, in blocks and in `with` too, the names that the tables are told to declare are those that the
@@ -69,9 +71,13 @@ pub fn clear_names_share_symbols()
 {}
 
 /// The identifiers by which the environments of one node bind such a name have one symbol, outside of `with`. Functions that may
-/// leave their blocks and own names of expressions are left out.
+/// leave their blocks and own names of expressions are left out. Of a name that isn't tangled, those functions count where their
+/// variables are.
 pub fn environments_have_one_symbol()
-    ensures { (p : Tree) (name : Name) → first_fault p ≡ None → is_ecmascript p ≡ true
+    ensures untangled { (p : Tree) (name : Name) → first_fault p ≡ None → is_ecmascript p ≡ true
+        → IsNumbered p.root → tangle_reasons p name ≡ [] → IsBoundOutsideWith p name
+        → has_misplaced p name ≡ false → has_clash p name ≡ false → VariablesHaveOneSymbol p name }
+    ensures clear { (p : Tree) (name : Name) → first_fault p ≡ None → is_ecmascript p ≡ true
         → IsNumbered p.root → AllKeepClear name (declarations (events (steps p)))
         → EnvironmentsHaveOneSymbol p name }
 {}
@@ -84,7 +90,7 @@ pub fn references_are_tied_nearest()
 
 /// Declarations of a name keep clear of each other where it is bound as no variable, no function and no plain catch name, where
 /// one identifier alone binds it, and where it is bound in plain ways or by functions that leave their blocks alone, nowhere in a
-/// `with`, and no `var` clashes.
+/// `with`, and no `var` clashes. So do those of a name that isn't tangled, under the premises of `untangled_names_agree`.
 pub fn names_keep_clear()
     ensures lexical { (p : Tree) (name : Name) → first_fault p ≡ None → is_ecmascript p ≡ true
         → StaysInside p name → AllKeepClear name (declarations (events (steps p))) }
@@ -94,6 +100,10 @@ pub fn names_keep_clear()
     ensures unclashed { (p : Tree) (name : Name) → first_fault p ≡ None → is_ecmascript p ≡ true
         → IsNumbered p.root → IsBoundOutsideWith p name → IsPlainName p name
         → has_clash p name ≡ false → AllKeepClear name (declarations (events (steps p))) }
+    ensures untangled { (p : Tree) (name : Name) → first_fault p ≡ None → is_ecmascript p ≡ true
+        → IsNumbered p.root → tangle_reasons p name ≡ [] → IsBoundOutsideWith p name
+        → has_misplaced p name ≡ false → has_clash p name ≡ false
+        → AllKeepClear name (declarations (events (steps p))) }
 {}
 
 /// Tables and language agree on a name of which no `var` clashes, and which the program binds by `var`, `let`, `const`, imports,
