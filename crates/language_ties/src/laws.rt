@@ -43,8 +43,10 @@ pub fn strictness_agrees()
 /// since they have a variable beside, it is that variable, be they the body of an `if`. Left out are bodies of `if` without such a
 /// variable, which other checks refuse.
 pub fn declarations_are_bound()
-    ensures staying { (p : Tree) → first_fault p ≡ None → is_ecmascript p ≡ true → DeclarationsAreBound p }
-    ensures leaving { (p : Tree) → first_fault p ≡ None → is_ecmascript p ≡ true → IsNumbered p.root → LeavingAreTold p }
+    ensures staying { (p : Tree) → first_fault p ≡ None → is_ecmascript p ≡ true
+        → DeclarationsAreBound p }
+    ensures leaving { (p : Tree) → first_fault p ≡ None → is_ecmascript p ≡ true
+        → IsNumbered p.root → LeavingAreTold p }
 {}
 
 /// Everywhere in such a program, of functions in blocks too, the names that the tables are told to declare are those that the
