@@ -7,3 +7,6 @@ pub mod HomesRound
 pub mod NameChildren
 pub mod NotedNames
 pub mod LeavesAlone
+pub mod OnceInRole
+pub mod StrictUnder
+pub mod PlainNames

@@ -32,10 +32,6 @@ is_declared_plainly b =
 abbrev pub is_plain : Bound → Bool
 is_plain b = is_bound_as bound.OwnName b || is_declared_plainly b
 
--- the name is bound only so: by `var`, `let`, `const`, imports, classes, functions without a variable beside, as a parameter, as the own name of an expression, and by catch clauses
-abbrev pub IsBoundPlainly : Tree → Name → Type 0
-IsBoundPlainly p name = (b : Bound) → Among b (written p.source_type (steps p)) → b.name ≡ name → is_plain b ≡ true
-
 -- a function in a block that has a variable beside, if nothing bars it
 abbrev pub leaves_block : Bound → Bool
 leaves_block b = is_bound_as bound.Function b && not (has_none b.also)

@@ -14,3 +14,4 @@ pub mod NearestScopes
 pub mod OneSymbol
 pub mod ClearNames
 pub mod AgreeingNames
+pub mod Misplaced

@@ -7,17 +7,18 @@ ghost use Rattle.semantic_model.specs.Event.{declarations, events};
 ghost use Rattle.semantic_model.specs.Step.{steps};
 ghost use Rattle.tangle_model.specs.Tangled.{tangle_reasons};
 ghost use Rattle.tangle_model.specs.declared.reason.Reason.TheVariants as reason;
-ghost use Rattle.language_ties.specs.AgreeingNames.{AgreesOutsideWith, AgreesPastObjects, AllStandInExpressions, IsBoundPlainly, IsPlainName, IsReadOutsideWith};
+ghost use Rattle.language_ties.specs.AgreeingNames.{AgreesOutsideWith, AgreesPastObjects, AllStandInExpressions, IsPlainName, IsReadOutsideWith};
 ghost use Rattle.language_ties.specs.Agreement.{differing};
 ghost use Rattle.language_ties.specs.ClearNames.{IsBoundOnce, StaysInside};
 ghost use Rattle.language_ties.specs.EarlyErrors.{has_clash};
-ghost use Rattle.language_ties.specs.ToldNames.{DeclarationsAreBound, NamesAreBound};
+ghost use Rattle.language_ties.specs.ToldNames.{DeclarationsAreBound, LeavingAreTold, NamesAreBound};
 ghost use Rattle.language_ties.specs.EcmaScript.{is_ecmascript};
 ghost use Rattle.language_ties.specs.Environments.{Environment};
 ghost use Rattle.language_ties.specs.Meaning.{identifiers_in};
+ghost use Rattle.language_ties.specs.Misplaced.{has_misplaced};
 ghost use Rattle.language_ties.specs.Moved.{bound_of};
 ghost use Rattle.language_ties.specs.NearestScopes.{AreTiedNearest};
-ghost use Rattle.language_ties.specs.OneSymbol.{EnvironmentsHaveOneSymbol};
+ghost use Rattle.language_ties.specs.OneSymbol.{EnvironmentsHaveOneSymbol, VariablesHaveOneSymbol};
 ghost use Rattle.language_ties.specs.Scopes.{ScopesAreEnvironments};
 ghost use Rattle.language_ties.specs.SharedSymbols.{AllKeepClear, ShareSymbols};
 ghost use Rattle.language_ties.specs.StrictCode.{StrictnessAgrees};
@@ -38,10 +39,14 @@ pub fn strictness_agrees()
 {}
 
 /// What the tables are told to declare at a node of an ECMAScript program is what the language binds there: the same identifiers
-/// and names in the same order, each in the scope of the node that makes its environment. Functions that may leave their blocks are
-/// left out: those that have a variable beside, and those that are the body of an `if`.
+/// and names in the same order, each in the scope of the node that makes its environment. Of functions that leave their blocks,
+/// since they have a variable beside, it is that variable, be they the body of an `if`. Left out are bodies of `if` without such a
+/// variable, which other checks refuse.
 pub fn declarations_are_bound()
-    ensures { (p : Tree) → first_fault p ≡ None → is_ecmascript p ≡ true → DeclarationsAreBound p }
+    ensures staying { (p : Tree) → first_fault p ≡ None → is_ecmascript p ≡ true
+        → DeclarationsAreBound p }
+    ensures leaving { (p : Tree) → first_fault p ≡ None → is_ecmascript p ≡ true
+        → IsNumbered p.root → LeavingAreTold p }
 {}
 
 /// Everywhere in such a program, of functions in blocks too, the names that the tables are told to declare are those that the
@@ -69,9 +74,12 @@ pub fn clear_names_share_symbols()
 {}
 
 /// The identifiers by which the environments of one node bind such a name have one symbol. Functions that may leave their blocks
-/// and own names of expressions are left out.
+/// and own names of expressions are left out. Of a name that isn't tangled, those functions count where their variables are.
 pub fn environments_have_one_symbol()
-    ensures { (p : Tree) (name : Name) → first_fault p ≡ None → is_ecmascript p ≡ true
+    ensures untangled { (p : Tree) (name : Name) → first_fault p ≡ None → is_ecmascript p ≡ true
+        → IsNumbered p.root → tangle_reasons p name ≡ []
+        → has_misplaced p name ≡ false → has_clash p name ≡ false → VariablesHaveOneSymbol p name }
+    ensures clear { (p : Tree) (name : Name) → first_fault p ≡ None → is_ecmascript p ≡ true
         → IsNumbered p.root → AllKeepClear name (declarations (events (steps p)))
         → EnvironmentsHaveOneSymbol p name }
 {}
@@ -84,7 +92,7 @@ pub fn references_are_tied_nearest()
 
 /// Declarations of a name keep clear of each other where it is bound as no variable, no function and no plain catch name, where
 /// one identifier alone binds it, and where it is bound in plain ways or by functions that leave their blocks alone, and no
-/// `var` clashes.
+/// `var` clashes. So do those of a name that isn't tangled, under the premises of `untangled_names_agree`.
 pub fn names_keep_clear()
     ensures lexical { (p : Tree) (name : Name) → first_fault p ≡ None → is_ecmascript p ≡ true
         → StaysInside p name → AllKeepClear name (declarations (events (steps p))) }
@@ -94,6 +102,10 @@ pub fn names_keep_clear()
     ensures unclashed { (p : Tree) (name : Name) → first_fault p ≡ None → is_ecmascript p ≡ true
         → IsNumbered p.root → IsPlainName p name
         → has_clash p name ≡ false → AllKeepClear name (declarations (events (steps p))) }
+    ensures untangled { (p : Tree) (name : Name) → first_fault p ≡ None → is_ecmascript p ≡ true
+        → IsNumbered p.root → tangle_reasons p name ≡ []
+        → has_misplaced p name ≡ false → has_clash p name ≡ false
+        → AllKeepClear name (declarations (events (steps p))) }
 {}
 
 /// Tables and language agree on a name of which no `var` clashes, and which the program binds by `var`, `let`, `const`, imports,
@@ -122,17 +134,18 @@ pub fn references_stand_in_expressions()
         → AllStandInExpressions p name }
 {}
 
-/// Of a name that isn't tangled, and that the program binds so, tables and language agree on each reference. That it isn't
-/// tangled says that no reference of it stands in a `with`, that no `var` of it passes a clause whose plain parameter it is, and
-/// that it isn't `arguments`. Blocks and functions in a `with` may declare it. Where it is tangled by a `with` alone, they agree on
-/// what it means if the object hasn't it.
+/// Of a name that isn't tangled, tables and language agree on each reference. That it isn't tangled says that no reference of it
+/// stands in a `with`, that no `var` of it passes a clause whose plain parameter it is, that nothing else of it is bound on the way of
+/// a function that leaves its block, be it the body of an `if`, and that it isn't `arguments`. Blocks and functions in a `with` may
+/// declare it. Where it is tangled by a `with` alone, they agree on what it means if the object hasn't it. Left to the program are
+/// early errors: a `var` that clashes, and functions where no grammar has them.
 pub fn untangled_names_agree()
     ensures untangled { (p : Tree) (name : Name) → first_fault p ≡ None → is_ecmascript p ≡ true
         → IsNumbered p.root → tangle_reasons p name ≡ []
-        → IsBoundPlainly p name → has_clash p name ≡ false
+        → has_misplaced p name ≡ false → has_clash p name ≡ false
         → differing p name ≡ [] }
     ensures by_with { (p : Tree) (name : Name) → first_fault p ≡ None → is_ecmascript p ≡ true
         → IsNumbered p.root → tangle_reasons p name ≡ reason.With ∷ []
-        → IsBoundPlainly p name → has_clash p name ≡ false
+        → has_misplaced p name ≡ false → has_clash p name ≡ false
         → AgreesPastObjects p name }
 {}

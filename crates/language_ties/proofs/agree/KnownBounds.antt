@@ -7,6 +7,7 @@ use Rattle.semantic_syntax.specs.Tables.{Name}
 use Rattle.semantic_tree.specs.Faults.{first_fault}
 use Rattle.semantic_tree.specs.Tree.{Tree, IsNumbered}
 use Rattle.semantic_tree.specs.declared.node.Node.{Node}
+use Rattle.semantic_model.specs.Analysis.{analysis_of, symbol_at}
 use Rattle.semantic_model.specs.Entries.{Among}
 use Rattle.semantic_model.specs.Place as place
 use Rattle.semantic_model.specs.Step.{entering, steps}
@@ -17,6 +18,8 @@ use Rattle.language_ties.specs.Environments.{Environment, is_made_for, environme
 use Rattle.language_ties.specs.declared.bound_as.BoundAs.TheVariants as bound
 use Rattle.language_ties.specs.declared.environment_kind.EnvironmentKind.{EnvironmentKind}
 use Rattle.language_ties.specs.declared.environment_kind.EnvironmentKind.TheVariants as environment
+use Rattle.language_ties.specs.OneSymbol.{HaveOneSymbol, first_or, VariablesHaveOneSymbol}
+use Rattle.language_ties.specs.SharedSymbols.{ShareSymbols}
 use Rattle.language_ties.proofs.agree.FamiliarPlaces.{IsFamiliar, FamiliarAt, IsClauseScope, familiar_program, innermost_clause, known_among}
 use Rattle.language_ties.proofs.agree.KnownNodes.{node_at}
 use Rattle.language_ties.proofs.agree.MadeEnvironments.{may_make, IsMadeBy, made_in, IsUsual, taking_usual, taking_among}
@@ -24,8 +27,8 @@ use Rattle.language_ties.proofs.agree.PlainBounds.{IsPlacedBound, placed_bound}
 use Rattle.language_ties.proofs.clear.PassedScopes.{taking_takes}
 use Rattle.language_ties.proofs.moved.LeavingFunctions.{LeavesAt, IsLeft}
 use Rattle.language_ties.proofs.moved.OnWays.{IsLeftSomewhere, left_somewhere, placed_as_left}
-use Rattle.language_ties.proofs.moved.Settled.{first_or, settled, settled_bounds, settled_name, settled_identifier, settled_sort, settled_stays, settled_leaves, leaves_function, only_function, plain_stays, IsSettled, is_settled}
-use Rattle.language_ties.proofs.symbols.OneSymbol.{each_at, DeclarationOf, StaysThere, declared_there, declaration_of}
+use Rattle.language_ties.proofs.moved.Settled.{settled, settled_bounds, settled_name, settled_identifier, settled_sort, settled_stays, settled_leaves, settled_last, settled_among, leaves_function, only_function, plain_stays, IsSettled, is_settled}
+use Rattle.language_ties.proofs.symbols.OneSymbol.{each_at, DeclarationOf, StaysThere, declared_there, declaration_of, share_symbol}
 
 pub some_is : {A : Type 0} (x y : A) → Some x ≡ Some y → x ≡ y
 some_is x y h = cc
@@ -165,3 +168,18 @@ module _ (p : Tree) (h : first_fault p ≡ None) (e : is_ecmascript p ≡ true) 
           let clause : IsClauseScope (node_at p) k.declares.declaration.route.target = subst (IsClauseScope (node_at p)) (sym inner) (innermost_clause (node_at p) k.declares.place.chain familiar.clauses) in
           let (y, f, c2) = clause c q in
           absurd (no_clause b k apart y (ap (node_at p) (sym k.declares.maker) ∙ f) c2)
+
+  -- what is bound in environments of one node has one symbol, functions that leave their blocks where their variables are
+  pub one_variable : ShareSymbols p x → VariablesHaveOneSymbol p x
+  one_variable shared b c i j n m o u q =
+      let first : KnownBound (settled b) = known_bound (settled b) (settled_among p b i) (settled_name b ∙ n) (same_sort b ∙ o) in
+      let second : KnownBound (settled c) = known_bound (settled c) (settled_among p c j) (settled_name c ∙ m) (same_sort c ∙ u) in
+      let both : HaveOneSymbol p (settled b) (settled c) = share_symbol p h e numbered x shared (settled b) (settled c) first.declares second.declares (ap (λ d. d.maker) (settled_last b) ∙ q ∙ ap (λ d. d.maker) (sym (settled_last c))) in
+      record {
+        symbol = both.symbol;
+        first = subst (λ k. symbol_at (analysis_of p) k ≡ Some both.symbol) (settled_identifier b) both.first;
+        second = subst (λ k. symbol_at (analysis_of p) k ≡ Some both.symbol) (settled_identifier c) both.second;
+      }
+    where
+      same_sort : (d : Bound) → is_bound_as bound.OwnName (settled d) ≡ is_bound_as bound.OwnName d
+      same_sort d = ap (λ w. is_bound_as bound.OwnName (record d { sort = w })) (settled_sort d)

@@ -26,6 +26,7 @@ use Rattle.language_ties.specs.Meaning.{is_bound_in, identifiers_in, meaning_pas
 use Rattle.language_ties.specs.Moved.{is_lexical_in, is_parameter_of, is_other_namesake, bars, unless_barred, moved as moved_by, bound_of}
 use Rattle.language_ties.specs.declared.bound_as.BoundAs.TheVariants as sort
 use Rattle.language_ties.specs.declared.environment_kind.EnvironmentKind.TheVariants as environment
+use Rattle.language_ties.specs.OneSymbol.{first_or}
 use Rattle.language_ties.proofs.agree.FamiliarPlaces.{IsFamiliar, FamiliarAt, familiar_program}
 use Rattle.language_ties.proofs.agree.Identifiers.{same_again, moved_name, moved_identifier, IsBoundHere, bound_here, identifier_here, meaning_further, meaning_here}
 use Rattle.language_ties.proofs.agree.KnownNodes.{node_at}
@@ -36,7 +37,7 @@ use Rattle.language_ties.proofs.block_functions.StayingFunctions.{innermost_unna
 use Rattle.language_ties.proofs.clear.PassedScopes.{taking_takes}
 use Rattle.language_ties.proofs.moved.FirstMade.{IsFirstMade, first_made, RoundIt, round_it}
 use Rattle.language_ties.proofs.moved.OnWays.{IsLeftSomewhere, left_somewhere}
-use Rattle.language_ties.proofs.moved.Settled.{first_or, settled, settled_bounds, bound_as_settled, settled_name, settled_identifier, settled_stays, settled_leaves, settled_environments, settled_among, IsSettled, is_settled, leaves_function, other_stays, no_function, plain_stays}
+use Rattle.language_ties.proofs.moved.Settled.{settled, settled_bounds, bound_as_settled, settled_name, settled_identifier, settled_stays, settled_leaves, settled_environments, settled_among, IsSettled, is_settled, leaves_function, other_stays, no_function, plain_stays}
 use Rattle.language_ties.proofs.symbols.OneSymbol.{each_at}
 use Rattle.language_ties.proofs.tangled.NamePlaces.{AllEnteredAs, AmidAt, amid_program}
 

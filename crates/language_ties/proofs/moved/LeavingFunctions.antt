@@ -28,6 +28,7 @@ use Rattle.language_ties.specs.Bound.{Bound, bound_identifier, bound_here, bound
 use Rattle.language_ties.specs.EcmaScript.{is_ecmascript_forest, is_ecmascript}
 use Rattle.language_ties.specs.Environments.{Environment, environments, innermost, passed, takes_variables, first_taking, environment_or, variable_environment}
 use Rattle.language_ties.specs.StrictCode.{IsStrictAlike}
+use Rattle.language_ties.specs.ToldNames.{LeavingAreTold}
 use Rattle.language_ties.specs.declared.bound_as.BoundAs.TheVariants as bound
 use Rattle.language_ties.specs.declared.environment_kind.EnvironmentKind.TheVariants as environment
 use Rattle.language_ties.proofs.EnvironmentsRound.{IsKnown, KnownAt, known_program}
@@ -251,3 +252,15 @@ module _ (p : Tree) (h : first_fault p ≡ None) (e : is_ecmascript p ≡ true) 
         how = r.how;
         passes = r.passes;
       }
+
+-- so its variable is told
+pub leaving_are_told : (p : Tree) → first_fault p ≡ None → is_ecmascript p ≡ true → IsNumbered p.root → LeavingAreTold p
+leaving_are_told p h e numbered q a b i leaves =
+    let l : IsLeft q b = is_left p h e numbered q a b (leaves_at p.source_type q b leaves q.node.kind refl i) in
+    record {
+      declaration = l.declaration;
+      told = l.told;
+      variable = l.variable;
+      also = l.also;
+      is_it = λ j. record { identifier = l.identifier j; name = l.named j; maker = l.opener j };
+    }

@@ -10,6 +10,7 @@ use Rattle.language_ties.specs.AgreeingNames.{has_none, is_declared_plainly, is_
 use Rattle.language_ties.specs.Bound.{Bound, is_bound_as, written}
 use Rattle.language_ties.specs.Environments.{Environment, is_made_for}
 use Rattle.language_ties.specs.Moved.{bound_among}
+use Rattle.language_ties.specs.OneSymbol.{first_or, last_environment}
 use Rattle.language_ties.specs.contracts.bound_as.BoundAs.{the_type as the_ways}
 use Rattle.language_ties.specs.declared.bound_as.BoundAs.{BoundAs}
 use Rattle.language_ties.specs.declared.bound_as.BoundAs.TheVariants as bound
@@ -18,10 +19,6 @@ use Rattle.language_ties.proofs.symbols.OneSymbol.{of_map}
 
 never : true ≡ false → ⊥
 never h = absurd cc
-
-abbrev pub first_or : Environment → List Environment → Environment
-first_or d [] = d
-first_or d (e ∷ es) = e
 
 -- a function that leaves its block is bound where its variable is, and there alone
 abbrev pub settled : Bound → Bound
@@ -60,6 +57,13 @@ settled_stays b h = ap (λ t. cond t (record b { environment = first_or b.enviro
 
 pub settled_leaves : (b : Bound) → leaves_block b ≡ true → settled b ≡ record b { environment = first_or b.environment b.also; also = [] }
 settled_leaves b h = ap (λ t. cond t (record b { environment = first_or b.environment b.also; also = [] }) b) h
+
+pub settled_last : (b : Bound) → (settled b).environment ≡ last_environment b
+settled_last b = go (leaves_block b)
+  where
+    go : (t : Bool) → (cond t (record b { environment = first_or b.environment b.also; also = [] }) b).environment ≡ cond t (first_or b.environment b.also) b.environment
+    go true = refl
+    go false = refl
 
 -- where it is bound then, it was bound before
 pub settled_environments : (b : Bound) (d : Environment) → Among d ((settled b).environment ∷ (settled b).also) → Among d (b.environment ∷ b.also)

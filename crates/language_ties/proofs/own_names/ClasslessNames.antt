@@ -1,6 +1,6 @@
 -- No declaration binds in the environment of a class: statements and imports stand in a class only within functions and static blocks.
-use Rattle.std.proofs.Common.{◌≡◌, ℕ, List, [], ◌∷◌, ◌++◌, Option, Some, None, Bool, true, false, ◌&&◌, ◌||◌, not, cond, map, flat_map, inl, inr, ◌⊎◌, refl, sym, ap, subst, ◌∙◌, codes}
-use Rattle.std.proofs.lemmas.Bool.{cases_Bool, not-true}
+use Rattle.std.proofs.Common.{◌≡◌, ℕ, List, [], ◌∷◌, ◌++◌, Option, None, Bool, true, false, ◌&&◌, ◌||◌, not, cond, map, inl, inr, refl, sym, ap, subst, ◌∙◌, codes}
+use Rattle.std.proofs.lemmas.Bool.{cases_Bool}
 use Rattle.semantic_syntax.proofs.Truth.{and_first, and_second}
 use Rattle.semantic_kinds.specs.Kinds.{same_kind}
 use Rattle.semantic_kinds.specs.declared.kind.AstType.{AstType}
@@ -10,7 +10,7 @@ use Rattle.semantic_kinds.specs.declared.role.Role.TheVariants as role
 use Rattle.semantic_tree.specs.Faults.{first_fault}
 use Rattle.semantic_tree.specs.Forest.{Forest, nothing, tree}
 use Rattle.semantic_tree.specs.Tree.{Tree, IsNumbered}
-use Rattle.semantic_tree.specs.Views.{is, is_with_text, children_of}
+use Rattle.semantic_tree.specs.Views.{is_with_text}
 use Rattle.semantic_tree.specs.declared.node.Node.{Node}
 use Rattle.semantic_model.specs.Binder.{is_statement}
 use Rattle.semantic_model.specs.Cursor.{on_entering}
@@ -24,10 +24,9 @@ use Rattle.semantic_model.proofs.form.ParameterShape.{is_parameter}
 use Rattle.semantic_model.proofs.steps.EachStep.{each_of_node, each_of_turn}
 use Rattle.semantic_model.proofs.steps.Turn.{Turn, turn_at}
 use Rattle.semantic_model.proofs.steps.TurnCases.{opening_case, ending_case, last_case}
-use Rattle.program_laws.proofs.DeclaredNodes.{among_map, among_flat}
+use Rattle.program_laws.proofs.DeclaredNodes.{among_map}
 use Rattle.walk_model.proofs.headers.NoStatements.{is_loose, is_bound, is_statement_text, is_closed, closed_by_table, closed_by_place, table_closes, place_closes, child_closed}
 use Rattle.walk_model.proofs.places.Shapes.{holds_below}
-use Rattle.language_ties.specs.AgreeingNames.{has_none, is_declared_plainly, is_plain, leaves_block}
 use Rattle.language_ties.specs.Bound as language
 use Rattle.language_ties.specs.Bound.{Bound, bound_identifier, bound_here, bound_outward, bound_by_declarator, bound_by_declaration, bound_by_function, bound_by_class, bound_by_catch, bound_by_node, is_bound_as}
 use Rattle.language_ties.specs.EcmaScript.{is_ecmascript}
@@ -46,7 +45,7 @@ use Rattle.language_ties.proofs.clear.ParameterPlaces.{parameter_takes}
 use Rattle.language_ties.proofs.clear.PassedScopes.{variables_taken}
 use Rattle.language_ties.proofs.own_names.PassedClasses.{HoldsLoose, LooseAt, loose_program, asks, NoClass, passes_no_class, under_no_class}
 use Rattle.language_ties.proofs.symbols.OneSymbol.{each_at}
-use Rattle.language_ties.proofs.tangled.NamePlaces.{IsEnteredAs, AllEnteredAs, IsAmidSteps, AmidAt, amid_program}
+use Rattle.language_ties.proofs.tangled.NamePlaces.{IsEnteredAs, AllEnteredAs, AmidAt, amid_program}
 
 never : true ≡ false → ⊥
 never h = absurd cc

@@ -1,34 +1,29 @@
 -- Of a name that isn't tangled, a function that leaves its block goes alone: what else is bound on its way would be noted at its home.
-use Rattle.std.proofs.Common.{◌≡◌, ℕ, ◌==◌, List, [], ◌∷◌, ◌++◌, None, Bool, true, false, ◌&&◌, ◌||◌, not, cond, map, flat_map, filter, inl, inr, ◌⊎◌, refl, sym, ap, subst, ◌∙◌, bytes_eq}
-use Rattle.std.specs.List.{list_any}
-use Rattle.std.proofs.lemmas.Bool.{cases_Bool, and_from}
+use Rattle.std.proofs.Common.{◌≡◌, ℕ, ◌==◌, List, [], ◌∷◌, ◌++◌, None, Bool, true, false, ◌&&◌, ◌||◌, cond, map, flat_map, filter, inl, inr, ◌⊎◌, refl, sym, ap, subst, ◌∙◌, bytes_eq}
+use Rattle.std.proofs.lemmas.Bool.{and_from}
 use Rattle.std.proofs.lemmas.Bool.Decides.{eqb_tells}
 use Rattle.semantic_kinds.specs.declared.kind.AstType.TheVariants as kind
 use Rattle.semantic_kinds.specs.declared.role.Role.TheVariants as role
 use Rattle.semantic_syntax.specs.Tables.{Name}
 use Rattle.semantic_tree.specs.Faults.{first_fault}
 use Rattle.semantic_tree.specs.Tree.{Tree, IsNumbered}
-use Rattle.semantic_tree.specs.declared.node.Node.{Node}
 use Rattle.semantic_model.specs.Binder.{is_statement}
 use Rattle.semantic_model.specs.Entries.{Among}
 use Rattle.semantic_model.specs.Names.{names_at}
 use Rattle.semantic_model.specs.Place.{Place}
 use Rattle.semantic_model.specs.Step.{Step, entering, steps}
-use Rattle.semantic_model.specs.TablesOf.{tables_of}
-use Rattle.semantic_model.proofs.lists.Members.{among_left, among_right}
 use Rattle.semantic_model.proofs.once.ListedUnder.{name_tells}
 use Rattle.program_laws.proofs.DeclaredNodes.{among_map}
-use Rattle.tangle_model.specs.Mention.{Mention, noted, noted_if, function_noted, is_block_function, noted_at, mentions}
+use Rattle.tangle_model.specs.Mention.{Mention, noted_if, function_noted, is_block_function, noted_at, mentions}
 use Rattle.tangle_model.specs.Repeated.{Key, same_key, is_mention_of, key_of, keys_of, key_stands, repeats}
 use Rattle.tangle_model.specs.Surroundings.{home_under, around_under}
 use Rattle.tangle_model.specs.Tangled.{meets_declaration, any_mention}
 use Rattle.tangle_model.specs.declared.reason.Reason.TheVariants as reason
 use Rattle.tangle_model.specs.declared.what.What.TheVariants as what
-use Rattle.language_ties.specs.AgreeingNames.{leaves_block, crossed, IsAlone}
-use Rattle.language_ties.specs.Bound as language
-use Rattle.language_ties.specs.Bound.{Bound, bound_identifier, bound_here, bound_by_declaration, bound_by_node, is_bound_as, written}
+use Rattle.language_ties.specs.AgreeingNames.{crossed, IsAlone}
+use Rattle.language_ties.specs.Bound.{Bound, bound_identifier, bound_here, bound_by_declaration, bound_by_node, written}
 use Rattle.language_ties.specs.EcmaScript.{is_ecmascript}
-use Rattle.language_ties.specs.Environments.{Environment, is_made_for, environments, innermost, passed, variable_environment}
+use Rattle.language_ties.specs.Environments.{Environment, environments, innermost, passed, variable_environment}
 use Rattle.language_ties.specs.declared.bound_as.BoundAs.TheVariants as bound
 use Rattle.language_ties.specs.declared.environment_kind.EnvironmentKind.TheVariants as environment
 use Rattle.language_ties.proofs.agree.EnteredOnce.{entered_once}
@@ -36,11 +31,11 @@ use Rattle.language_ties.proofs.agree.FamiliarPlaces.{IsFamiliar, FamiliarAt, fa
 use Rattle.language_ties.proofs.agree.KnownNodes.{node_at}
 use Rattle.language_ties.proofs.agree.MadeEnvironments.{EndsAtProgram}
 use Rattle.language_ties.proofs.agree.PlainBounds.{IsBoundAt, bound_at_place}
-use Rattle.language_ties.proofs.moved.LeavingFunctions.{LeavesAt, leaves_at}
+use Rattle.language_ties.proofs.moved.LeavingFunctions.{LeavesAt}
 use Rattle.language_ties.proofs.own_names.OwnIds.{named_once}
 use Rattle.language_ties.proofs.symbols.OneSymbol.{of_map, of_flat, each_at}
-use Rattle.language_ties.proofs.tangled.HomesRound.{IsMadeInHome, IsOwnBody, InHome}
-use Rattle.language_ties.proofs.tangled.NotedNames.{IsNoted, is_noted, Ways, declaration_ways, function_noted_there, same_of_one}
+use Rattle.language_ties.proofs.tangled.HomesRound.{IsMadeInHome, InHome}
+use Rattle.language_ties.proofs.tangled.NotedNames.{IsNoted, is_noted, declaration_ways, function_noted_there, same_of_one}
 use Rattle.language_ties.proofs.tangled.Untangled.{NoneButWith, any_of, holds_not}
 
 never : true ≡ false → ⊥

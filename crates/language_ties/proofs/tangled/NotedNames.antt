@@ -1,17 +1,15 @@
 -- What binds a name is noted at the home of the environments on its way.
-use Rattle.std.proofs.Common.{◌≡◌, ℕ, List, [], ◌∷◌, ◌++◌, Option, Some, None, Bool, true, false, ◌&&◌, ◌||◌, not, cond, map, flat_map, inl, inr, ◌⊎◌, refl, sym, ap, subst, ◌∙◌, codes}
-use Rattle.std.proofs.lemmas.Bool.{cases_Bool}
-use Rattle.semantic_syntax.proofs.Truth.{and_first, and_second}
+use Rattle.std.proofs.Common.{◌≡◌, ℕ, List, [], ◌∷◌, Some, None, Bool, true, false, ◌||◌, not, cond, map, flat_map, inl, inr, ◌⊎◌, refl, sym, ap, subst, ◌∙◌, codes}
+use Rattle.semantic_syntax.proofs.Truth.{and_first}
 use Rattle.semantic_kinds.specs.Classes.{holds_kind}
 use Rattle.semantic_kinds.specs.Kinds.{same_kind}
-use Rattle.semantic_kinds.specs.Roles.{same_role}
 use Rattle.semantic_kinds.specs.declared.kind.AstType.{AstType}
 use Rattle.semantic_kinds.specs.declared.kind.AstType.TheVariants as kind
 use Rattle.semantic_kinds.specs.declared.role.Role.{Role}
 use Rattle.semantic_kinds.specs.declared.role.Role.TheVariants as role
 use Rattle.semantic_syntax.specs.Tables.{Name}
 use Rattle.semantic_tree.specs.Faults.{first_fault}
-use Rattle.semantic_tree.specs.Nodes.{trees, nodes_in, first_of}
+use Rattle.semantic_tree.specs.Nodes.{first_of}
 use Rattle.semantic_tree.specs.Tree.{Tree, IsNumbered}
 use Rattle.semantic_tree.specs.Views.{is, is_with_text, has_text, child_of, children_of}
 use Rattle.semantic_tree.specs.declared.node.Node.{Node}
@@ -19,14 +17,13 @@ use Rattle.semantic_model.specs.Binder.{is_statement}
 use Rattle.semantic_model.specs.Entries.{Among}
 use Rattle.semantic_model.specs.Names.{bound_names, bound_below, names_at}
 use Rattle.semantic_model.specs.Place.{Place}
-use Rattle.semantic_model.specs.Step.{Step, entering, steps}
+use Rattle.semantic_model.specs.Step.{entering, steps}
 use Rattle.semantic_model.proofs.form.Clauses.{kind_is}
-use Rattle.semantic_model.proofs.lists.Members.{among_left, among_right, among_cases}
+use Rattle.semantic_model.proofs.lists.Members.{among_left, among_cases}
 use Rattle.program_laws.proofs.DeclaredNodes.{among_map, among_flat}
 use Rattle.walk_model.proofs.once.NamesInRole.{AtMostOne}
 use Rattle.tangle_model.specs.Mention.{Mention, same_declarer, noted_if, identifier_noted, function_noted, named_noted, noted_by, noted_at}
 use Rattle.tangle_model.specs.Surroundings.{is_home, home_under, declarer_in, declarer_under, around_under}
-use Rattle.tangle_model.specs.declared.around.Declarer.{Declarer}
 use Rattle.tangle_model.specs.declared.around.Declarer.TheVariants as declarer
 use Rattle.tangle_model.specs.declared.what.What.TheVariants as what
 use Rattle.language_ties.specs.AgreeingNames.{crossed}
@@ -45,9 +42,9 @@ use Rattle.language_ties.proofs.clear.PassedScopes.{takes_some}
 use Rattle.language_ties.proofs.own_names.OwnIds.{named_once}
 use Rattle.language_ties.proofs.symbols.OneSymbol.{each_at}
 use Rattle.language_ties.proofs.tangled.CaughtVariables.{in_below, reached_declarer, reached_home, name_place}
-use Rattle.language_ties.proofs.tangled.HomesRound.{reach, passed_reached, taking_reached, innermost_reached, IsMadeInHome, IsOwnBody, InHome, in_home}
-use Rattle.language_ties.proofs.tangled.NameChildren.{has_name_in, is_named_child, IsRoleChild, name_child, IsNamedPlace, NamedAt, named_program}
-use Rattle.language_ties.proofs.tangled.NamePlaces.{holds_names, Reaches, IsNamePlace, IsEnteredAs, AllEnteredAs, IsAmidSteps, AmidAt, amid_program}
+use Rattle.language_ties.proofs.tangled.HomesRound.{reach, passed_reached, taking_reached, innermost_reached, InHome, in_home}
+use Rattle.language_ties.proofs.tangled.NameChildren.{has_name_in, IsRoleChild, name_child, NamedAt, named_program}
+use Rattle.language_ties.proofs.tangled.NamePlaces.{holds_names, Reaches, IsNamePlace, IsAmidSteps, AmidAt, amid_program}
 
 never : true ≡ false → ⊥
 never h = absurd cc
