@@ -42,8 +42,10 @@ pub fn strictness_agrees()
 /// leave their blocks, since they have a variable beside, it is that variable, be they the body of an `if`. Left out are bodies
 /// of `if` without such a variable, which other checks refuse.
 pub fn declarations_are_bound()
-    ensures staying { (p : Tree) → first_fault p ≡ None → is_ecmascript p ≡ true → DeclarationsAreBound p }
-    ensures leaving { (p : Tree) → first_fault p ≡ None → is_ecmascript p ≡ true → IsNumbered p.root → LeavingAreTold p }
+    ensures staying { (p : Tree) → first_fault p ≡ None → is_ecmascript p ≡ true
+        → DeclarationsAreBound p }
+    ensures leaving { (p : Tree) → first_fault p ≡ None → is_ecmascript p ≡ true
+        → IsNumbered p.root → LeavingAreTold p }
 {}
 
 /// Everywhere in such a program, in blocks and in `with` too, the names that the tables are told to declare are those that the
