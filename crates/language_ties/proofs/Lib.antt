@@ -2,6 +2,7 @@ pub mod ProgramTrees
 pub mod Programs
 pub mod PartingPrograms
 pub mod Rows
+pub mod MovedPrograms
 pub mod MisplacedFunctions
 pub mod clashes
 pub mod SwitchShape
