@@ -1,6 +1,7 @@
 pub mod Programs
 pub mod PartingPrograms
 pub mod Rows
+pub mod MovedPrograms
 pub mod MisplacedFunctions
 pub mod clashes
 pub mod SwitchShape

@@ -1,7 +1,7 @@
 -- Functions where no grammar has them: trees without a fault that are no programs, and where tables and language part although the name is not tangled.
 use lib.Utf8.{encode}
 use Rattle.std.specs.Str.{chars}
-use Rattle.std.proofs.Common.{◌≡◌, [], ◌∷◌, codes, false, None, refl}
+use Rattle.std.proofs.Common.{◌≡◌, [], ◌∷◌, codes, true, false, None, refl}
 use Rattle.semantic_syntax.specs.declared.source_type.Goal.TheVariants as goal
 use Rattle.semantic_syntax.specs.declared.source_type.Lang.TheVariants as lang
 use Rattle.semantic_kinds.specs.declared.kind.AstType.TheVariants as kind
@@ -13,6 +13,7 @@ use Rattle.tangle_model.specs.Tangled.{tangle_reasons}
 use Rattle.language_ties.specs.Agreement.{differing}
 use Rattle.language_ties.specs.EarlyErrors.{has_clash}
 use Rattle.language_ties.specs.Meaning.{meanings, unbound, bound}
+use Rattle.language_ties.specs.Misplaced.{has_misplaced}
 use Rattle.language_ties.specs.declared.environment_kind.EnvironmentKind.TheVariants.{Global, IfBody}
 use Rattle.tangle_model.proofs.ProgramTrees.{marked, node, program}
 
@@ -48,6 +49,10 @@ under_loop_f_untangled = refl
 under_loop_without_clash : has_clash under_loop (codes "f") ≡ false
 unfolding encode chars
 under_loop_without_clash = refl
+
+under_loop_f_misplaced : has_misplaced under_loop (codes "f") ≡ true
+unfolding encode chars
+under_loop_f_misplaced = refl
 
 -- the script binds the `var` and the variable of the function, which the tables leave in the loop
 under_loop_meant : meanings under_loop ≡ record { node = 10; meaning = bound (record { kind = Global; maker = 0 }) (3 ∷ 6 ∷ []) } ∷ []
@@ -90,6 +95,10 @@ strict_if_f_untangled = refl
 strict_if_without_clash : has_clash strict_if (codes "f") ≡ false
 unfolding encode chars
 strict_if_without_clash = refl
+
+strict_if_f_misplaced : has_misplaced strict_if (codes "f") ≡ true
+unfolding encode chars
+strict_if_f_misplaced = refl
 
 -- nothing binds the last name, which the tables tie to the function
 strict_if_meant : meanings strict_if ≡ record { node = 8; meaning = bound (record { kind = IfBody; maker = 3 }) (4 ∷ []) } ∷ record { node = 10; meaning = unbound } ∷ []
