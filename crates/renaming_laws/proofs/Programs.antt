@@ -76,3 +76,7 @@ reaching name = program (
     ∷ []))
     ∷ variable (codes "let") (codes "N") ∷ [])
     ∷ [])
+
+-- `let x; let x; { let NAME; }`
+abbrev pub shadowing : Name → Tree
+shadowing name = program (variable (codes "let") (codes "x") ∷ variable (codes "let") (codes "x") ∷ block (variable (codes "let") name ∷ []) ∷ [])

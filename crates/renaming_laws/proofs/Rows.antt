@@ -11,7 +11,7 @@ use Rattle.program_laws.specs.SameAnalysis.{conflicts_of}
 use Rattle.rename_model.specs.Refusal.{rename}
 use Rattle.rename_model.proofs.Programs.{in_object, shorthand}
 use Rattle.renaming_laws.specs.WrittenOut.{written_out}
-use Rattle.renaming_laws.proofs.Programs.{once, twice, passing, reaching}
+use Rattle.renaming_laws.proofs.Programs.{once, twice, shadowing, passing, reaching}
 
 abbrev names_told : Tree → List Name
 names_told p = map (λ c. c.name) (conflicts_of p)
@@ -25,6 +25,13 @@ is_renamed = refl
 
 conflict_after : names_told (twice (codes "y")) ≡ codes "y" ∷ []
 conflict_after = refl
+
+-- another symbol of the old name keeps its own, and what is told of it
+is_renamed_inside : rename (shadowing (codes "x")) 1 (codes "y") ≡ Ok (shadowing (codes "y"))
+is_renamed_inside = refl
+
+told_outside : diagnostics_of true (shadowing (codes "y")) ≡ diagnostics_of true (shadowing (codes "x"))
+told_outside = refl
 
 -- a `var` that passes the scope of a type no longer finds its symbol on its way, and gives it its flags
 keeps_ties : rename (passing (codes "x")) 1 (codes "n") ≡ Ok (passing (codes "n"))
