@@ -12,7 +12,7 @@ use Rattle.report_ends.specs.Streams.{numbered_text}
 use Rattle.report_lines.specs.Pieces as pieces
 use Rattle.report_lines.specs.TableLines.{table_lines}
 use Rattle.report_lines.specs.ClassLines.{all_class_lines}
-use Rattle.report_lines.specs.CountLines.{node_line_by, node_lines, label_line, stats_line}
+use Rattle.report_lines.specs.CountLines.{node_line_by, label_line, stats_line}
 use Rattle.report_lines.specs.DiagnosticLine.{said_or_dash, label_text, diagnostic_line}
 use Rattle.report_answers.specs.Found.{Found}
 use Rattle.report_answers.specs.Report.{where_asked, noted_text, counted_text, report_text}
