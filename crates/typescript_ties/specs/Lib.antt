@@ -1,0 +1,7 @@
+pub mod Containers
+pub mod MeaningSets
+pub mod NamedDeclarations
+pub mod AskedMeanings
+pub mod Resolved
+pub mod ResolvedTies
+pub mod DeclaredNames
