@@ -4,3 +4,6 @@ pub mod Rows
 pub mod KnownPlaces
 pub mod DeclaredAlike
 pub mod UndeclaredFree
+pub mod OtherNames
+pub mod PlainFold
+pub mod TiedTogether

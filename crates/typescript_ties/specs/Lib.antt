@@ -5,3 +5,4 @@ pub mod AskedMeanings
 pub mod Resolved
 pub mod ResolvedTies
 pub mod DeclaredNames
+pub mod SeenTogether

@@ -4,6 +4,7 @@ ghost use Rattle.semantic_syntax.specs.Tables.{Name};
 ghost use Rattle.semantic_tree.specs.Faults.{first_fault};
 ghost use Rattle.semantic_tree.specs.Tree.{Tree};
 ghost use Rattle.typescript_ties.specs.DeclaredNames.{NamesAreDeclared, IsUntiedEverywhere, MeansNothing, is_declared_in};
+ghost use Rattle.typescript_ties.specs.SeenTogether.{IsPlainlyDeclared, AreTiedTogether};
 
 /// At each node of a program the names that the tables are told to declare are those that the language declares, each by its
 /// identifier; but for the parameters of index signatures, of which the tables know nothing.
@@ -17,4 +18,12 @@ pub fn undeclared_names_are_free()
         → MeansNothing p name }
     ensures untied { (p : Tree) (name : Name) → first_fault p ≡ None
         → is_declared_in p name ≡ false → IsUntiedEverywhere p name }
+{}
+
+/// Each reference of a name that is declared plainly, by no `var` that passes a scope and by no catch clause, is tied to the symbol of
+/// the first scope outward whose declarations of the name, together, fit its way; of a scope whose header holds it, those outside of
+/// the body. In TypeScript these are `let`, `const`, types, classes, functions, enums, namespaces, imports and parameters.
+pub fn plain_names_are_tied_together()
+    ensures { (p : Tree) (name : Name) → first_fault p ≡ None → IsPlainlyDeclared p name
+        → AreTiedTogether p name }
 {}
