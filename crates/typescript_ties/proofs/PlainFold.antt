@@ -24,7 +24,7 @@ use Rattle.semantic_model.proofs.lists.Members.{among_more}
 use Rattle.semantic_model.proofs.lists.SymbolLaws.{get-update, get-push, get-last, get_within}
 use Rattle.semantic_model.proofs.once.ListedUnder.{name_tells}
 use Rattle.binding_laws.specs.SeenDeclarations.{seen_alone, with_declaration, bound_by_all}
-use Rattle.typescript_ties.specs.SeenTogether.{IsPlain, is_in_scope}
+use Rattle.typescript_ties.specs.SeenTogether.{IsPlainDeclaration, is_in_scope}
 use Rattle.typescript_ties.proofs.OtherNames.{LeavesName, leaves_name, flags_rescoped, flags_apart}
 
 -- ---- lists
@@ -244,7 +244,7 @@ module _ (table : List (Option ℕ)) where
         by None g = made_new
         by (Some s) g = either s (meets (flags_of st s) symbol.FunctionExpression.bits) g
 
-  own_state : (x : Name) (st : State) (d : Declaration) → d.naming.name ≡ x → IsPlain d → Sound table st → PlainState x st → PlainState x (act st (declares d))
+  own_state : (x : Name) (st : State) (d : Declaration) → d.naming.name ≡ x → IsPlainDeclaration d → Sound table st → PlainState x st → PlainState x (act st (declares d))
   own_state x st d e k sound h =
       subst (λ y. PlainState y (act st (declares d))) e
       (subst (λ how. PlainState d.naming.name (declare_by how st d)) (sym k.how) (declared_state st d k.lasting sound (subst (λ y. PlainState y st) (sym e) h)))
@@ -296,7 +296,7 @@ module _ (table : List (Option ℕ)) where
   -- ---- all events
 
   abbrev pub AllPlain : Name → List Event → Type 0
-  AllPlain x es = (d : Declaration) → Among d (declarations es) → d.naming.name ≡ x → IsPlain d
+  AllPlain x es = (d : Declaration) → Among d (declarations es) → d.naming.name ≡ x → IsPlainDeclaration d
 
   one_event : (x : Name) (st : State) (e : Event) (es : List Event) → IsReady table st e → Sound table st → AllPlain x (e ∷ es) → PlainState x st → PlainState x (act st e)
   one_event x st (declares d) es ready sound all h = elim (name_tells d.naming.name x) [

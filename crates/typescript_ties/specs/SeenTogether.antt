@@ -16,13 +16,13 @@ use Rattle.semantic_model.specs.Tie.{symbol_by}
 use Rattle.binding_laws.specs.SeenDeclarations.{made_of, is_before_body, bound_by_all}
 
 -- as `var` doesn't, nor a function that leaves its block, and not by a catch clause
-pub record IsPlain (d : Declaration) : Type 0 where
+pub record IsPlainDeclaration (d : Declaration) : Type 0 where
   pub how : d.how ≡ plain
   pub lasting : d.route.target.body ≡ None
 
 -- each declaration of the name is
 abbrev pub IsPlainlyDeclared : Tree → Name → Type 0
-IsPlainlyDeclared p x = (d : Declaration) → Among d (declarations (events (steps p))) → d.naming.name ≡ x → IsPlain d
+IsPlainlyDeclared p x = (d : Declaration) → Among d (declarations (events (steps p))) → d.naming.name ≡ x → IsPlainDeclaration d
 
 -- a declaration of the name in the scope
 abbrev pub is_in_scope : ℕ → Name → Made → Bool
