@@ -22,9 +22,9 @@ use Rattle.semantic_model.specs.Place.{Place, OpenScope}
 use Rattle.semantic_model.specs.ScopeKind.{opened_scope}
 use Rattle.semantic_model.specs.Step.{Step, entering, opening, header_ending, closing, leaving, steps}
 use Rattle.std.proofs.lemmas.List.{append-nil, map-append}
-use Rattle.typescript_ties.specs.Containers.{Container, container_of, containers}
+use Rattle.typescript_ties.specs.Containers.{Container, container_of, bound_container, containers}
 use Rattle.typescript_ties.specs.DeclaredNames.{NamedIdentifier, told_to_tables, told_by_language, NamesAsDeclared, NamesAreDeclared}
-use Rattle.typescript_ties.specs.NamedDeclarations.{NamedDeclaration, named_declaration, declared_here, imported_here, declared_outward, variables_named, leaves_its_block, namespace_sort, first_condition, innermost_container, named_by_node}
+use Rattle.typescript_ties.specs.NamedDeclarations.{NamedDeclaration, named_declaration, declared_here, imported_as, imported_here, declared_outward, variables_named, leaves_its_block, namespace_sort, first_condition, named_by_node}
 use Rattle.typescript_ties.specs.declared.container_kind.ContainerKind.TheVariants as container
 use Rattle.typescript_ties.specs.declared.declaration_sort.DeclarationSort.TheVariants as sort
 use Rattle.typescript_ties.proofs.KnownPlaces.{KnownStep, is_bare_rest, known_places}
@@ -82,14 +82,14 @@ module _ (s : SourceType) (p : Place) (own : OpenScope) where
   function_names = go (is_statement p.node)
     where
       far : Node → NamedDeclaration
-      far = declared_outward sort.Function s p.node p.path
+      far = declared_outward sort.BlockFunction s p.node p.path
 
       near : Node → NamedDeclaration
       near = declared_here sort.Function s p.node p.path
 
       go : (b : Bool) → map told_to_tables (cond b [] (map (declaration_at p.node (own_function_row p own) (has mark.Pure p.node)) (ids p.node)) ++ cond b (map (declaration_at p.node (function_row p) (has mark.Pure p.node)) (ids p.node)) [])
-          ≡ map told_by_language (map (cond b (cond (leaves_its_block s p.path) far near) (named_declaration sort.FunctionName (container_of container.OwnName p.node) [])) (ids p.node))
-      go true = same_names (declaration_at p.node (function_row p) (has mark.Pure p.node)) (cond (leaves_its_block s p.path) far near) (ids p.node) (λ id. either_told (leaves_its_block s p.path) far near id refl refl)
+          ≡ map told_by_language (map (cond b (cond (leaves_its_block s p.node p.path) far near) (named_declaration sort.FunctionName (container_of container.OwnName p.node) [])) (ids p.node))
+      go true = same_names (declaration_at p.node (function_row p) (has mark.Pure p.node)) (cond (leaves_its_block s p.node p.path) far near) (ids p.node) (λ id. either_told (leaves_its_block s p.node p.path) far near id refl refl)
       go false = same_names_last (declaration_at p.node (own_function_row p own) (has mark.Pure p.node)) (named_declaration sort.FunctionName (container_of container.OwnName p.node) []) (ids p.node) (λ id. refl)
 
   class_names : Alike kind.Class
@@ -127,8 +127,8 @@ module _ (s : SourceType) (p : Place) (own : OpenScope) where
   type_parameter_names =
       let cs : List Container = containers s p.node p.path in
       let b : Bool = place.parent_holds (is kind.TSInferType) p.path in
-      let f : Node → NamedDeclaration = named_declaration sort.Inferred (first_condition cs) (innermost_container cs ∷ []) in
-      let g : Node → NamedDeclaration = named_declaration sort.TypeParameter (innermost_container cs) [] in
+      let f : Node → NamedDeclaration = named_declaration sort.Inferred (first_condition cs) (bound_container false cs ∷ []) in
+      let g : Node → NamedDeclaration = named_declaration sort.TypeParameter (bound_container false cs) [] in
       same_names (declaration_at p.node (type_parameter_row (type_parameter_route p)) false) (cond b f g) (names_at role.Name p.node) (λ id. either_told b f g id refl refl)
 
   no_rest_names : (b : Bool) (ds : List Declaration) → b ≡ false → map told_to_tables (cond b ds []) ≡ []
@@ -142,21 +142,21 @@ module _ (s : SourceType) (p : Place) (own : OpenScope) where
   names_by kind.VariableDeclarator k i r u = variable_names p.path
   names_by kind.Function k i r u = function_names
   names_by kind.Class k i r u = class_names
-  names_by kind.FormalParameter k i r u = parameter_names p.path (not_root kind.FormalParameter k (λ q. absurd cc) u) (named_declaration sort.Parameter (innermost_container (containers s p.node p.path)) []) (λ id. refl)
-  names_by kind.FormalParameterRest k i r u = parameter_names p.path (not_root kind.FormalParameterRest k (λ q. absurd cc) u) (named_declaration sort.Parameter (innermost_container (containers s p.node p.path)) []) (λ id. refl)
+  names_by kind.FormalParameter k i r u = parameter_names p.path (not_root kind.FormalParameter k (λ q. absurd cc) u) (named_declaration sort.Parameter (bound_container false (containers s p.node p.path)) []) (λ id. refl)
+  names_by kind.FormalParameterRest k i r u = parameter_names p.path (not_root kind.FormalParameterRest k (λ q. absurd cc) u) (named_declaration sort.Parameter (bound_container false (containers s p.node p.path)) []) (λ id. refl)
   names_by kind.BindingRestElement k i r u = no_rest_names (place.parent_holds (is kind.FormalParameters) p.path) _ (rw k at r)
-  names_by kind.CatchParameter k i r u = catch_clause_names (children_of role.Pattern p.node.children) (named_declaration sort.CatchName (innermost_container (containers s p.node p.path)) []) (λ id. refl)
+  names_by kind.CatchParameter k i r u = catch_clause_names (children_of role.Pattern p.node.children) (named_declaration sort.CatchName (bound_container false (containers s p.node p.path)) []) (λ id. refl)
   names_by kind.ImportSpecifier k i r u = import_names
   names_by kind.ImportDefaultSpecifier k i r u = import_names
   names_by kind.ImportNamespaceSpecifier k i r u = import_names
-  names_by kind.TSImportEqualsDeclaration k i r u = names_here symbol.Import.bits symbol.ImportBindingExcludes.bits (imported_here s p.node p.path) (ids p.node) (λ id. refl)
+  names_by kind.TSImportEqualsDeclaration k i r u = names_here symbol.Import.bits symbol.ImportBindingExcludes.bits (imported_as sort.Import s p.node p.path) (ids p.node) (λ id. refl)
   names_by kind.TSTypeAliasDeclaration k i r u = names_here (union symbol.TypeAlias.bits (marked_ambient p.node)) symbol.TypeAliasExcludes.bits (declared_here sort.TypeAlias s p.node p.path) (ids p.node) (λ id. refl)
   names_by kind.TSInterfaceDeclaration k i r u = names_here (union symbol.Interface.bits (marked_ambient p.node)) symbol.InterfaceExcludes.bits (declared_here sort.Interface s p.node p.path) (ids p.node) (λ id. refl)
   names_by kind.TSEnumDeclaration k i r u = enum_names
-  names_by kind.TSEnumMember k i r u = names_here symbol.EnumMember.bits symbol.EnumMemberExcludes.bits (named_declaration sort.EnumMember (innermost_container (containers s p.node p.path)) []) (flat_map (member_named p.node) (children_of role.Id p.node.children)) (λ id. refl)
+  names_by kind.TSEnumMember k i r u = names_here symbol.EnumMember.bits symbol.EnumMemberExcludes.bits (named_declaration sort.EnumMember (bound_container false (containers s p.node p.path)) []) (flat_map (member_named p.node) (children_of role.Id p.node.children)) (λ id. refl)
   names_by kind.TSNamespaceDeclaration k i r u = namespace_names (instance_state p.node p.path (nodes_around p.node p.path))
   names_by kind.TSTypeParameter k i r u = type_parameter_names
-  names_by kind.TSMappedType k i r u = same_names_last (declaration_at p.node (type_parameter_row (here (own ∷ []))) false) (named_declaration sort.TypeParameter (container_of container.TypeParameters p.node) []) (names_at role.Key p.node) (λ id. refl)
+  names_by kind.TSMappedType k i r u = same_names_last (declaration_at p.node (type_parameter_row (here (own ∷ []))) false) (named_declaration sort.MappedKey (container_of container.TypeParameters p.node) []) (names_at role.Key p.node) (λ id. refl)
   names_by kind.TSIndexSignatureName k i r u = absurd cc
   names_by _ k i r u = refl
 

@@ -89,7 +89,7 @@ module _ (F : Place → Type 0) where
 abbrev pub IsEnteredIn : List Step → Place → Type 0
 IsEnteredIn ss p = Among (entering p) ss
 
-all_entered : (all ss : List Step) → ((st : Step) → Among st ss → Among st all) → EachStep (OfEntered (IsEnteredIn all)) ss
+pub all_entered : (all ss : List Step) → ((st : Step) → Among st ss → Among st all) → EachStep (OfEntered (IsEnteredIn all)) ss
 all_entered all [] f = tt
 all_entered all (entering p ∷ ss) f = (f (entering p) (inl refl), all_entered all ss (λ st a. f st (inr a)))
 all_entered all (opening p s ∷ ss) f = (tt, all_entered all ss (λ st a. f st (inr a)))
@@ -105,6 +105,7 @@ pub record IsWritten (p : Tree) (d : Declaration) : Type 0 where
   pub written : Declaration
   pub among : Among written (declared_on_opening place (opened_scope place count) ++ declared_on_entering place)
   pub is_placed : placed (written_declarations (steps p)) written ≡ d
+  pub naming_same : written.naming ≡ d.naming
 
 placed_naming : (how : How) (ds : List Declaration) (d : Declaration) → (placed_by how ds d).naming ≡ d.naming
 placed_naming plain ds d = refl
@@ -132,11 +133,11 @@ module _ (p : Tree) where
   of_step : (st : Step) (e : Event) (d : Declaration) → Among st (steps p) → OfOpened (IsEnteredIn (steps p)) st → Among e (events_of ds st) → Among d (declared e) → IsWritten p d
   of_step (entering q) e d i o a b =
       let (w, c, r) = of_all (declared_on_entering q) e d a b in
-      record { place = q; entered = i; count = 0; written = w; among = among_right w (declared_on_opening q (opened_scope q 0)) (declared_on_entering q) c; is_placed = r }
+      record { place = q; entered = i; count = 0; written = w; among = among_right w (declared_on_opening q (opened_scope q 0)) (declared_on_entering q) c; is_placed = r; naming_same = sym (placed_naming w.how ds w) ∙ ap (λ z. z.naming) r }
   of_step (opening q s) e d i o a b = elim (among_cases e (taken_over q s) (declares_all ds (declared_on_opening q s)) a) [
     | inl t ↦ absurd (taken (is_catch_body q) t)
     | inr t ↦ (let (w, c, r) = of_all (declared_on_opening q s) e d t b in
-        record { place = q; entered = o.0; count = o.1.0; written = w; among = among_left w (declared_on_opening q (opened_scope q o.1.0)) (declared_on_entering q) (subst (λ z. Among w (declared_on_opening q z)) o.1.1 c); is_placed = r })
+        record { place = q; entered = o.0; count = o.1.0; written = w; among = among_left w (declared_on_opening q (opened_scope q o.1.0)) (declared_on_entering q) (subst (λ z. Among w (declared_on_opening q z)) o.1.1 c); is_placed = r; naming_same = sym (placed_naming w.how ds w) ∙ ap (λ z. z.naming) r })
   ]
     where
       taken : (t : Bool) → Among e (cond t (takes_over (place.innermost q.chain).number s.number ∷ []) []) → ⊥
@@ -164,7 +165,7 @@ among_told (x ∷ ds) (y ∷ ns) h d (inr a) =
     let (n, c, e) = among_told ds ns q d a in (n, inr c, e)
 
 -- an index signature's parameter is none of the tables
-not_index : (q : Place) (n : ℕ) (d : Declaration) → Among d (declared_on_opening q (opened_scope q n) ++ declared_on_entering q) → is kind.TSIndexSignatureName q.node ≡ false
+pub not_index : (q : Place) (n : ℕ) (d : Declaration) → Among d (declared_on_opening q (opened_scope q n) ++ declared_on_entering q) → is kind.TSIndexSignatureName q.node ≡ false
 not_index q n d a = go q.node.kind refl a
   where
     go : (k : AstType) → q.node.kind ≡ k → Among d (declared_inside k q (opened_scope q n) ++ declared_by k q) → is kind.TSIndexSignatureName q.node ≡ false
@@ -187,8 +188,7 @@ named_too p h d a =
     let alike : map told_to_tables (declared_on_opening w.place (opened_scope w.place w.count) ++ declared_on_entering w.place) ≡ map told_by_language (named_by_node w.place.node.kind p.source_type w.place.node w.place.path) =
     names_by p.source_type w.place (opened_scope w.place w.count) w.place.node.kind refl (not_index w.place w.count w.written w.among) k.whole k.rooted in
     let (n, b, e) = among_told (declared_on_opening w.place (opened_scope w.place w.count) ++ declared_on_entering w.place) (named_by_node w.place.node.kind p.source_type w.place.node w.place.path) alike w.written w.among in
-    let same : w.written.naming ≡ d.naming = sym (placed_naming w.written.how (written_declarations (steps p)) w.written) ∙ ap (λ z. z.naming) w.is_placed in
-    record { from = w; named = n; among = b; identifier = ap (λ t. t.identifier) e ∙ ap (λ t. t.identifier) same; name = ap (λ t. t.name) e ∙ ap (λ t. t.name) same }
+    record { from = w; named = n; among = b; identifier = ap (λ t. t.identifier) e ∙ ap (λ t. t.identifier) w.naming_same; name = ap (λ t. t.name) e ∙ ap (λ t. t.name) w.naming_same }
 
 -- ---- a name that nothing declares
 

@@ -95,46 +95,44 @@ path_below name c (Some m) = record { root = m.root; names = name ∷ m.names }
 abbrev pub members_of : ContainerKind → ℕ → Name → Container → Container
 members_of k node name c = record { kind = k; node = node; members = Some (path_below name c c.members) }
 
-abbrev pub named_members : ContainerKind → ℕ → (Name → Name) → Option Node → Container → List Container
-named_members k node f None c = []
-named_members k node f (Some id) c = members_of k node (f id.text) c ∷ []
+abbrev pub id_text : Option Node → Name
+id_text None = []
+id_text (Some id) = id.text
 
 -- the name of a module isn't that of a namespace
 abbrev pub module_member_name : Name → Name
 module_member_name name = codes "'" ++ name
 
-abbrev pub as_it_is : Name → Name
-as_it_is name = name
-
 -- the members of the enum above its body
-abbrev pub enum_members : SourceType → Node → List Node → List Container → List Container
-enum_members s body [] outer = container_of container.EnumMembers body ∷ []
+abbrev pub enum_members : SourceType → Node → List Node → List Container → Container
+enum_members s body [] outer = container_of container.EnumMembers body
 enum_members s body (x ∷ path) outer =
-    elim (child_of role.Id x) [
-      | None ↦ container_of container.EnumMembers body ∷ []
-      | Some id ↦ members_of container.EnumMembers body.node_id id.text (bound_container (is_exported_under s path) outer) ∷ []
-    ]
+    members_of container.EnumMembers body.node_id (id_text (child_of role.Id x)) (bound_container (is_exported_under s path) outer)
 
 -- ---- what a node has round a child
 
+abbrev pub is_one_of_kind : AstType → Node → Bool
+is_one_of_kind k child = holds_kind (k ∷ []) child.kind
+
+-- the type parameters, the parameters and the type of a function or signature
+abbrev pub is_of_signature : Node → Bool
+is_of_signature child = holds_kind (kind.TSTypeParameterDeclaration ∷ kind.TSThisParameter ∷ kind.FormalParameters ∷ kind.TSTypeAnnotation ∷ []) child.kind
+
+-- parameters aren't seen in the type parameters
 abbrev pub parameter_containers : Node → Node → List Container
 parameter_containers x child =
     cond (is kind.TSTypeParameterDeclaration child) [] (container_of container.Parameters x ∷ []) ++ container_of container.TypeParameters x ∷ []
 
--- what a body declares isn't seen outside of it
+-- and what a body declares isn't outside of it
 abbrev pub function_containers : Node → Node → List Container
 function_containers x child =
-    cond (is kind.FunctionBody child) (container_of container.Body x ∷ []) [] ++ parameter_containers x child ++ container_of container.OwnName x ∷ []
+    cond (is_of_signature child) [] (container_of container.Body x ∷ []) ++ parameter_containers x child ++ container_of container.OwnName x ∷ []
 
 abbrev pub block_containers : Bool → Node → List Container
 block_containers inside x = cond inside (container_of container.Block x ∷ []) []
 
 abbrev pub type_containers : Bool → Node → List Container
 type_containers inside x = cond inside (container_of container.TypeParameters x ∷ []) []
-
--- a key of a method's signature stands outside of it
-abbrev pub is_of_signature : Node → Bool
-is_of_signature child = holds_kind (kind.TSTypeParameterDeclaration ∷ kind.TSThisParameter ∷ kind.FormalParameters ∷ kind.TSTypeAnnotation ∷ []) child.kind
 
 -- the containers that a node of the kind has round one of its children
 abbrev pub containers_by : AstType → SourceType → Node → List Node → List Container → Node → List Container
@@ -146,11 +144,11 @@ containers_by kind.TSConstructorType s x path outer child = parameter_containers
 containers_by kind.TSCallSignatureDeclaration s x path outer child = parameter_containers x child
 containers_by kind.TSConstructSignatureDeclaration s x path outer child = parameter_containers x child
 containers_by kind.TSMethodSignature s x path outer child = cond (is_of_signature child) (parameter_containers x child) []
-containers_by kind.TSIndexSignature s x path outer child = container_of container.Parameters x ∷ []
+containers_by kind.TSIndexSignature s x path outer child = container_of container.IndexSignature x ∷ []
 containers_by kind.Class s x path outer child =
-    cond (is kind.Decorator child) [] (container_of container.TypeParameters x ∷ container_of container.OwnName x ∷ [])
-containers_by kind.TSInterfaceDeclaration s x path outer child = type_containers (not (is kind.BindingIdentifier child)) x
-containers_by kind.TSTypeAliasDeclaration s x path outer child = type_containers (not (is kind.BindingIdentifier child)) x
+    cond (is_one_of_kind kind.Decorator child) [] (container_of container.TypeParameters x ∷ container_of container.OwnName x ∷ [])
+containers_by kind.TSInterfaceDeclaration s x path outer child = type_containers (not (is_one_of_kind kind.BindingIdentifier child)) x
+containers_by kind.TSTypeAliasDeclaration s x path outer child = type_containers (not (is_one_of_kind kind.BindingIdentifier child)) x
 containers_by kind.TSMappedType s x path outer child = type_containers true x
 containers_by kind.TSConditionalType s x path outer child =
     container_of (cond (is_child_in role.True x child) container.Inferred container.Condition) x ∷ []
@@ -160,18 +158,22 @@ containers_by kind.BlockStatement s x path outer child = block_containers true x
 containers_by kind.ForStatement s x path outer child = block_containers true x
 containers_by kind.ForInStatement s x path outer child = block_containers true x
 containers_by kind.ForOfStatement s x path outer child = block_containers true x
-containers_by kind.CatchClause s x path outer child = block_containers true x
-containers_by kind.SwitchStatement s x path outer child = block_containers (is kind.SwitchCase child) x
+containers_by kind.CatchClause s x path outer child = container_of container.CatchClause x ∷ []
+containers_by kind.SwitchStatement s x path outer child = block_containers (is_one_of_kind kind.SwitchCase child) x
 containers_by kind.WithStatement s x path outer child = block_containers (is_kind_of_statement child.kind child.text) x
 containers_by kind.TSNamespaceDeclaration s x path outer child =
-    cond (is kind.BindingIdentifier child) []
-    (container_of container.ModuleBlock x ∷ named_members container.NamespaceMembers x.node_id as_it_is (child_of role.Id x) (bound_container (is_exported_under s path) outer))
+    cond (is_one_of_kind kind.BindingIdentifier child) []
+    (container_of container.ModuleBlock x
+    ∷ members_of container.NamespaceMembers x.node_id (id_text (child_of role.Id x)) (bound_container (is_exported_under s path) outer)
+    ∷ [])
 containers_by kind.TSExternalModuleDeclaration s x path outer child =
-    cond (is kind.TSModuleBlock child)
-    (container_of container.ModuleBlock x ∷ named_members container.ModuleMembers x.node_id module_member_name (child_of role.Id x) (bound_container false outer)) []
+    cond (is_one_of_kind kind.TSModuleBlock child)
+    (container_of container.ModuleBlock x
+    ∷ members_of container.ModuleMembers x.node_id (module_member_name (id_text (child_of role.Id x))) (bound_container false outer)
+    ∷ []) []
 containers_by kind.TSGlobalDeclaration s x path outer child =
     container_of container.ModuleBlock x ∷ record { kind = container.GlobalMembers; node = x.node_id; members = Some (record { root = 0; names = [] }) } ∷ []
-containers_by kind.TSEnumBody s x path outer child = enum_members s x path outer
+containers_by kind.TSEnumBody s x path outer child = enum_members s x path outer ∷ []
 containers_by _ s x path outer child = []
 
 -- a decorator of a parameter stands outside of the function

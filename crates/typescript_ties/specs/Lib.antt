@@ -6,3 +6,4 @@ pub mod Resolved
 pub mod ResolvedTies
 pub mod DeclaredNames
 pub mod SeenTogether
+pub mod SimpleNames

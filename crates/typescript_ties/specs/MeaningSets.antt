@@ -32,6 +32,7 @@ abbrev pub sort_meanings : DeclarationSort → MeaningSet
 sort_meanings sort.Var = a_value
 sort_meanings sort.Lexical = a_value
 sort_meanings sort.Function = a_value
+sort_meanings sort.BlockFunction = a_value
 sort_meanings sort.Parameter = a_value
 sort_meanings sort.IndexParameter = a_value
 sort_meanings sort.CatchName = a_value
@@ -39,11 +40,13 @@ sort_meanings sort.Class = value_and_type
 sort_meanings sort.FunctionName = a_value
 sort_meanings sort.ClassName = value_and_type
 sort_meanings sort.Import = any_meaning
+sort_meanings sort.TypeImport = any_meaning
 sort_meanings sort.TypeAlias = a_type
 sort_meanings sort.Interface = a_type
 sort_meanings sort.Enum = any_meaning
 sort_meanings sort.EnumMember = value_and_type
 sort_meanings sort.TypeParameter = a_type
+sort_meanings sort.MappedKey = a_type
 sort_meanings sort.Inferred = a_type
 sort_meanings sort.TypeNamespace = a_namespace
 sort_meanings sort.ValueNamespace = record { value = true; is_type = false; namespace = true }

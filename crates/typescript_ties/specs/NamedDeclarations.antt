@@ -1,16 +1,17 @@
 -- The names that a node declares, as what, and the containers that have them.
-use Rattle.std.specs.Prelude.{ℕ, List, [], ◌∷◌, Bool, ◌&&◌, ◌||◌, not, cond, map, flat_map, codes}
+use Rattle.std.specs.Prelude.{ℕ, List, [], ◌∷◌, Bool, false, ◌&&◌, ◌||◌, not, cond, map, flat_map, codes}
 use Rattle.std.specs.List.{list_any}
 use denote.Enum.Bare.{sameb}
 use Rattle.semantic_kinds.specs.Classes.{holds_kind}
 use Rattle.semantic_kinds.specs.declared.kind.AstType.{AstType}
 use Rattle.semantic_kinds.specs.declared.kind.AstType.TheVariants as kind
+use Rattle.semantic_kinds.specs.declared.mark.Mark.TheVariants as mark
 use Rattle.semantic_kinds.specs.declared.role.Role.TheVariants as role
 use Rattle.semantic_syntax.specs.SourceTypes.{is_module}
 use Rattle.semantic_syntax.specs.Tables.{Name}
 use Rattle.semantic_syntax.specs.declared.source_type.SourceType.{SourceType}
 use Rattle.semantic_tree.specs.Tree.{Tree}
-use Rattle.semantic_tree.specs.Views.{is, is_with_text, has_use_strict, child_of, children_of, holds}
+use Rattle.semantic_tree.specs.Views.{is, has, is_with_text, has_use_strict, child_of, children_of, holds}
 use Rattle.semantic_tree.specs.declared.node.Node.{Node}
 use Rattle.semantic_model.specs.Binder.{is_statement, member_named}
 use Rattle.semantic_model.specs.Names.{bound_names, names_at}
@@ -54,9 +55,14 @@ abbrev pub declared_here : DeclarationSort → SourceType → Node → List Node
 declared_here k s x path id = declared_in_container k (bound_container (is_exported_under s path) (containers s x path)) id
 
 -- by itself, an import is no member
+abbrev pub imported_as : DeclarationSort → SourceType → Node → List Node → Node → NamedDeclaration
+imported_as k s x path id = declared_in_container k (bound_container (parent_holds (is kind.ExportDeclaration) path) (containers s x path)) id
+
+abbrev pub import_sort : Node → List Node → DeclarationSort
+import_sort x path = cond (has mark.TypeOnly x || parent_holds (has mark.TypeOnly) path) sort.TypeImport sort.Import
+
 abbrev pub imported_here : SourceType → Node → List Node → Node → NamedDeclaration
-imported_here s x path id =
-    declared_in_container sort.Import (bound_container (parent_holds (is kind.ExportDeclaration) path) (containers s x path)) id
+imported_here s x path id = imported_as (import_sort x path) s x path id
 
 -- what takes the variables, and in sloppy code the functions, of the blocks in it
 abbrev pub takes_vars : Container → Bool
@@ -86,14 +92,14 @@ is_strict_by x =
 abbrev pub is_strict_inside : SourceType → List Node → Bool
 is_strict_inside s path = is_module s || list_any is_strict_by path
 
--- a function in a block of sloppy code, which belongs to the function around
-abbrev pub leaves_its_block : SourceType → List Node → Bool
-leaves_its_block s path = not (is_strict_inside s path)
+-- a function in a block of sloppy code
+abbrev pub leaves_its_block : SourceType → Node → List Node → Bool
+leaves_its_block s x path = not (is_strict_inside s path) && not (takes_vars (bound_container false (containers s x path)))
 
 abbrev pub functions_named : SourceType → Node → List Node → List NamedDeclaration
 functions_named s x path =
     map (cond (is_statement x)
-    (cond (leaves_its_block s path) (declared_outward sort.Function s x path) (declared_here sort.Function s x path))
+    (cond (leaves_its_block s x path) (declared_outward sort.BlockFunction s x path) (declared_here sort.Function s x path))
     (named_declaration sort.FunctionName (container_of container.OwnName x) [])) (names_at role.Id x)
 
 abbrev pub classes_named : SourceType → Node → List Node → List NamedDeclaration
@@ -109,42 +115,37 @@ abbrev pub first_condition : List Container → Container
 first_condition [] = no_container
 first_condition (c ∷ cs) = cond (is_container container.Condition c) (record c { kind = container.Inferred }) (first_condition cs)
 
--- the innermost container, of parameters and what else a node has for itself
-abbrev pub innermost_container : List Container → Container
-innermost_container [] = no_container
-innermost_container (c ∷ cs) = c
-
 -- a type parameter belongs to what has its list, or to the conditional type
 abbrev pub type_parameters_named : SourceType → Node → List Node → List NamedDeclaration
 type_parameters_named s x path =
     let cs : List Container = containers s x path in
     map (cond (parent_holds (is kind.TSInferType) path)
-    (named_declaration sort.Inferred (first_condition cs) (innermost_container cs ∷ []))
-    (named_declaration sort.TypeParameter (innermost_container cs) [])) (names_at role.Name x)
+    (named_declaration sort.Inferred (first_condition cs) (bound_container false cs ∷ []))
+    (named_declaration sort.TypeParameter (bound_container false cs) [])) (names_at role.Name x)
 
 -- what a node of the kind declares
 abbrev pub named_by_node : AstType → SourceType → Node → List Node → List NamedDeclaration
 named_by_node kind.VariableDeclarator s x path = variables_named s x path
 named_by_node kind.Function s x path = functions_named s x path
 named_by_node kind.Class s x path = classes_named s x path
-named_by_node kind.FormalParameter s x path = map (named_declaration sort.Parameter (innermost_container (containers s x path)) []) (bound_names x)
-named_by_node kind.FormalParameterRest s x path = map (named_declaration sort.Parameter (innermost_container (containers s x path)) []) (bound_names x)
-named_by_node kind.TSIndexSignatureName s x path = named_declaration sort.IndexParameter (innermost_container (containers s x path)) [] x ∷ []
+named_by_node kind.FormalParameter s x path = map (named_declaration sort.Parameter (bound_container false (containers s x path)) []) (bound_names x)
+named_by_node kind.FormalParameterRest s x path = map (named_declaration sort.Parameter (bound_container false (containers s x path)) []) (bound_names x)
+named_by_node kind.TSIndexSignatureName s x path = named_declaration sort.IndexParameter (bound_container false (containers s x path)) [] x ∷ []
 named_by_node kind.CatchParameter s x path =
-    map (named_declaration sort.CatchName (innermost_container (containers s x path)) []) (flat_map bound_names (children_of role.Pattern x.children))
+    map (named_declaration sort.CatchName (bound_container false (containers s x path)) []) (flat_map bound_names (children_of role.Pattern x.children))
 named_by_node kind.ImportSpecifier s x path = map (imported_here s x path) (names_at role.Local x)
 named_by_node kind.ImportDefaultSpecifier s x path = map (imported_here s x path) (names_at role.Local x)
 named_by_node kind.ImportNamespaceSpecifier s x path = map (imported_here s x path) (names_at role.Local x)
-named_by_node kind.TSImportEqualsDeclaration s x path = map (imported_here s x path) (names_at role.Id x)
+named_by_node kind.TSImportEqualsDeclaration s x path = map (imported_as sort.Import s x path) (names_at role.Id x)
 named_by_node kind.TSTypeAliasDeclaration s x path = map (declared_here sort.TypeAlias s x path) (names_at role.Id x)
 named_by_node kind.TSInterfaceDeclaration s x path = map (declared_here sort.Interface s x path) (names_at role.Id x)
 named_by_node kind.TSEnumDeclaration s x path = map (declared_here sort.Enum s x path) (names_at role.Id x)
 named_by_node kind.TSEnumMember s x path =
-    map (named_declaration sort.EnumMember (innermost_container (containers s x path)) []) (flat_map (member_named x) (children_of role.Id x.children))
+    map (named_declaration sort.EnumMember (bound_container false (containers s x path)) []) (flat_map (member_named x) (children_of role.Id x.children))
 named_by_node kind.TSNamespaceDeclaration s x path =
     map (declared_here (namespace_sort (instance_state x path (nodes_around x path))) s x path) (names_at role.Id x)
 named_by_node kind.TSTypeParameter s x path = type_parameters_named s x path
-named_by_node kind.TSMappedType s x path = map (named_declaration sort.TypeParameter (container_of container.TypeParameters x) []) (names_at role.Key x)
+named_by_node kind.TSMappedType s x path = map (named_declaration sort.MappedKey (container_of container.TypeParameters x) []) (names_at role.Key x)
 named_by_node _ s x path = []
 
 abbrev pub named_at : SourceType → Step → List NamedDeclaration

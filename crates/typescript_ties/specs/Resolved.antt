@@ -3,6 +3,7 @@ use Rattle.std.specs.Prelude.{ℕ, List, [], ◌∷◌, Bool, ◌&&◌, ◌||◌
 use Rattle.std.specs.List.{list_any}
 use Rattle.semantic_kinds.specs.declared.kind.AstType.TheVariants as kind
 use Rattle.semantic_syntax.specs.Tables.{Name}
+use Rattle.semantic_syntax.specs.declared.source_type.SourceType.{SourceType}
 use Rattle.semantic_tree.specs.Tree.{Tree}
 use Rattle.semantic_tree.specs.Views.{is}
 use Rattle.semantic_model.specs.Place.{Place}
@@ -42,21 +43,21 @@ pub record NameUse : Type 0 where
   pub asked : MeaningSet
   pub round : List Container
 
-abbrev pub name_use : Place → NameUse
-name_use p = record {
+abbrev pub name_use : SourceType → Place → NameUse
+name_use s p = record {
   node = p.node.node_id;
   name = p.node.text;
   asked = asked_by_reference p.path;
-  round = containers p.source_type p.node p.path;
+  round = containers s p.node p.path;
 }
 
-abbrev pub used_at : Step → Option NameUse
-used_at (entering p) = cond (is kind.IdentifierReference p.node) (Some (name_use p)) None
-used_at _ = None
+abbrev pub used_at : SourceType → Step → Option NameUse
+used_at s (entering p) = cond (is kind.IdentifierReference p.node) (Some (name_use s p)) None
+used_at s _ = None
 
 -- the identifier references in preorder
 abbrev pub name_uses : Tree → List NameUse
-name_uses p = filter_map used_at (steps p)
+name_uses p = filter_map (used_at p.source_type) (steps p)
 
 abbrev pub resolved_by : List NamedDeclaration → NameUse → Resolved
 resolved_by ds u = resolve ds u.round u.asked u.name

@@ -27,8 +27,12 @@ pub enum ContainerKind {
     Body,
     /// A static block of a class.
     StaticBlock,
-    /// A block, a loop, the cases of a `switch`, a catch clause, and what is the body of a `with`.
+    /// A block, a loop, the cases of a `switch`, and what is the body of a `with`.
     Block,
+    /// A catch clause.
+    CatchClause,
+    /// An index signature.
+    IndexSignature,
     /// The true part of a conditional type, in which its `infer` declares.
     Inferred,
     /// The other parts of one, in which that isn't seen.

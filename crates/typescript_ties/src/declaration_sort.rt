@@ -9,6 +9,8 @@ pub enum DeclarationSort {
     Lexical,
     /// By the declaration of a function.
     Function,
+    /// By one in a block of sloppy code, which belongs to the function around.
+    BlockFunction,
     /// As a parameter of a function or signature.
     Parameter,
     /// As the parameter of an index signature.
@@ -23,6 +25,8 @@ pub enum DeclarationSort {
     ClassName,
     /// By an import, or by `import =`.
     Import,
+    /// By an import of types.
+    TypeImport,
     /// By `type`.
     TypeAlias,
     /// By `interface`.
@@ -31,8 +35,10 @@ pub enum DeclarationSort {
     Enum,
     /// As a member of an enum.
     EnumMember,
-    /// As a type parameter, or the key of a mapped type.
+    /// As a type parameter.
     TypeParameter,
+    /// As the key of a mapped type.
+    MappedKey,
     /// By `infer`.
     Inferred,
     /// By a namespace that has types alone.

@@ -1,9 +1,13 @@
 //! Laws over what TypeScript binds and what the tables say.
-ghost use Rattle.std.specs.Prelude.{◌≡◌, false, None};
+ghost use Rattle.std.specs.Prelude.{◌≡◌, true, false, None, []};
+ghost use Rattle.semantic_syntax.specs.SourceTypes.{is_typescript};
 ghost use Rattle.semantic_syntax.specs.Tables.{Name};
 ghost use Rattle.semantic_tree.specs.Faults.{first_fault};
-ghost use Rattle.semantic_tree.specs.Tree.{Tree};
+ghost use Rattle.semantic_tree.specs.Tree.{Tree, IsNumbered};
+ghost use Rattle.tangle_model.specs.Tangled.{tangle_reasons};
 ghost use Rattle.typescript_ties.specs.DeclaredNames.{NamesAreDeclared, IsUntiedEverywhere, MeansNothing, is_declared_in};
+ghost use Rattle.typescript_ties.specs.ResolvedTies.{parting_uses};
+ghost use Rattle.typescript_ties.specs.SimpleNames.{is_common, IsSimpleName};
 ghost use Rattle.typescript_ties.specs.SeenTogether.{IsPlainlyDeclared, AreTiedTogether};
 
 /// At each node of a program the names that the tables are told to declare are those that the language declares, each by its
@@ -26,4 +30,13 @@ pub fn undeclared_names_are_free()
 pub fn plain_names_are_tied_together()
     ensures { (p : Tree) (name : Name) → first_fault p ≡ None → IsPlainlyDeclared p name
         → AreTiedTogether p name }
+{}
+
+/// Tables and language agree on each reference of a name that isn't tangled and is declared simply, in a program of TypeScript without
+/// `with` and without decorators of parameters: the reference is tied to the symbol of all declarations that the nearest container
+/// has of the name which has one in a meaning that is asked for, and free exactly where none has.
+pub fn untangled_names_are_tied_as_they_mean()
+    ensures { (p : Tree) (name : Name) → first_fault p ≡ None → is_common p ≡ true
+        → is_typescript p.source_type ≡ true → IsNumbered p.root → tangle_reasons p name ≡ []
+        → IsSimpleName p name → parting_uses p name ≡ [] }
 {}
