@@ -1,4 +1,3 @@
-pub mod ProgramTrees
 pub mod Programs
 pub mod Rows
 pub mod KnownPlaces
