@@ -88,13 +88,17 @@ module _ (p : Tree) (h : first_fault p ≡ None) (e : is_ecmascript p ≡ true) 
     pub named : bind.name ≡ x
     pub there : (bind.environment.maker ≡ s.opener) ⊎ IsTakenBy p bind s.number
 
+  asked_by : (s : OpenScope) → IsOpened (openers (steps p)) s → (d : Declaration) → Among d (declarations (events (steps p))) → home d ≡ s.number → (b : Bound) → Among b ws → b.name ≡ x → b.identifier ≡ identifier_of d → IsAsked s
+  asked_by s o d there stands b a n i =
+      let v : AnyBound p h e numbered x plain b = any_bound p h e numbered x plain b a n in
+      let k : IsDeclared p h e numbered x plain b = is_declared p h e numbered x plain b v in
+      let one : identifier_of d ≡ identifier_of k.declaration = sym i ∙ sym k.identifier in
+      let same : d ≡ k.declaration = same_declaration d k.declaration (declarations (events (steps p))) there k.among one (declared_once p (identifier_of d) h numbered) in
+      record { bind = b; among = a; named = n; there = made_where p h e numbered x plain b v s o (ap home (sym same) ∙ stands) }
+
   pub asked : (s : OpenScope) (y : ℕ) → IsOpened (openers (steps p)) s → slice_get table s.number ≡ Some s.body → get final.bindings s.number x ≡ Some y → IsAsked s
   asked s y o entry g =
       let there : reading.bound_in (tables_of p) s.number x ≡ Some y = bound_as p s.number x (within s.number s.body entry) ∙ g in
       let w : IsDeclaredAt p x s.number y = shared.bound s.number y there in
       let (b, a, n, i) = each_identifier p.source_type x (λ j. (b : Bound) × Among b ws × (b.name ≡ x) × (b.identifier ≡ j)) p h e (λ b a n. (settled b, settled_among p b a, settled_name b ∙ n, settled_identifier b)) w.declaration w.among w.named in
-      let v : AnyBound p h e numbered x plain b = any_bound p h e numbered x plain b a n in
-      let k : IsDeclared p h e numbered x plain b = is_declared p h e numbered x plain b v in
-      let one : identifier_of w.declaration ≡ identifier_of k.declaration = sym i ∙ sym k.identifier in
-      let same : w.declaration ≡ k.declaration = same_declaration w.declaration k.declaration (declarations (events (steps p))) w.among k.among one (declared_once p (identifier_of w.declaration) h numbered) in
-      record { bind = b; among = a; named = n; there = made_where p h e numbered x plain b v s o (ap home (sym same) ∙ w.stands) }
+      asked_by s o w.declaration w.among w.stands b a n i

@@ -1,74 +1,40 @@
 -- How what binds a name is declared: variables as `var` does, plain catch names always anew.
-use Rattle.std.proofs.Common.{◌≡◌, ℕ, ◌≤◌, List, [], ◌∷◌, ◌++◌, Option, Some, None, Bool, true, false, ◌&&◌, ◌||◌, not, cond, map, flat_map, inl, inr, ◌⊎◌, refl, sym, ap, subst, ◌∙◌, bytes_eq, codes, if◌then◌else◌}
-use Rattle.std.specs.List.{list_any}
-use Rattle.std.specs.Prelude.{slice_get}
+use Rattle.std.proofs.Common.{◌≡◌, ℕ, List, [], ◌∷◌, Bool, true, false, ◌&&◌, ◌||◌, not, cond, map, flat_map, inl, inr, ◌⊎◌, refl, sym, ap, subst, ◌∙◌, codes, if◌then◌else◌}
 use Rattle.std.proofs.lemmas.Bool.{cases_Bool, and_from}
-use Rattle.std.proofs.lemmas.Bool.Decides.{eqb_tells}
 use Rattle.semantic_syntax.proofs.Truth.{or_true}
 use Rattle.semantic_kinds.specs.declared.kind.AstType.{AstType}
 use Rattle.semantic_kinds.specs.declared.kind.AstType.TheVariants as kind
 use Rattle.semantic_kinds.specs.declared.mark.Mark.TheVariants as mark
 use Rattle.semantic_kinds.specs.declared.role.Role.TheVariants as role
-use Rattle.semantic_syntax.specs.Members.{contains}
 use Rattle.semantic_syntax.specs.Sets.{union}
 use Rattle.semantic_syntax.specs.Tables.{Name}
 use Rattle.semantic_syntax.specs.declared.source_type.SourceType.{SourceType}
 use Rattle.semantic_syntax.specs.declared.symbol_flags.TheConstants.SymbolFlags as symbol
-use Rattle.semantic_tree.specs.Faults.{first_fault}
-use Rattle.semantic_tree.specs.Tree.{Tree, IsNumbered}
 use Rattle.semantic_tree.specs.Views.{is, has, is_with_text, children_of}
 use Rattle.semantic_tree.specs.declared.node.Node.{Node}
 use Rattle.semantic_model.specs.Binder.{BinderRow, declaration_at, declare_here, variable_row, variables_under, is_pure_declarator, is_statement, is_var, is_block_function, function_row, class_row, ids, parameter_excluded, parameters_under, import_flags, catch_names, declared_by, declared_on_entering}
-use Rattle.semantic_model.specs.Declaration.{Declaration, How, plain, hoisted, moved, caught, body_list, path, Meets, here, passed_before, route_from, outward_to}
-use Rattle.semantic_model.specs.Entries.{Among, times}
-use Rattle.semantic_model.specs.Event.{declarations, events}
+use Rattle.semantic_model.specs.Declaration.{Declaration, How, plain, hoisted, moved, caught, path, here, outward_to}
+use Rattle.semantic_model.specs.Entries.{Among}
 use Rattle.semantic_model.specs.Names.{bound_names, bound_below, names_at}
-use Rattle.semantic_model.specs.Place.{Place, OpenScope, parent_holds}
-use Rattle.semantic_model.specs.Step.{Step, entering, steps}
+use Rattle.semantic_model.specs.Place.{Place, parent_holds}
+use Rattle.semantic_model.specs.Step.{Step, entering}
 use Rattle.semantic_model.proofs.fold.EachDeclared.{EachDeclared, each_on_entering}
 use Rattle.semantic_model.proofs.form.ParameterShape.{is_parameter}
 use Rattle.semantic_model.proofs.lists.Members.{among_left, among_right, among_cases}
-use Rattle.semantic_model.proofs.once.ListedUnder.{name_tells}
-use Rattle.walk_model.proofs.headers.NoStatements.{is_loose}
 use Rattle.program_laws.proofs.DeclaredNodes.{among_map, among_flat}
-use Rattle.language_ties.specs.AgreeingNames.{is_declared_plainly, IsPlainName}
 use Rattle.language_ties.specs.Bound as language
 use Rattle.language_ties.specs.Bound.{Bound, bound_identifier, bound_here, bound_outward, bound_by_declarator, bound_by_declaration, bound_by_function, bound_by_class, bound_by_catch, bound_by_node, bound_at, is_bound_as, written}
-use Rattle.language_ties.specs.contracts.bound_as.BoundAs.{the_type as the_ways}
-use denote.Enum.Bare.{same_true}
-use Rattle.language_ties.specs.EarlyErrors.{meets_lexical, clashes, has_clash}
-use Rattle.language_ties.specs.EcmaScript.{is_ecmascript_kind, is_ecmascript}
-use Rattle.language_ties.specs.Environments.{Environment, same_environment, is_made_for, made_by, environments, innermost, passed, takes_variables, variable_environment}
-use Rattle.language_ties.specs.Moved.{is_lexical_in, moved as moved_by, unless_barred, bound_of}
-use Rattle.language_ties.specs.Scopes.{maker_of_scope, has_scope, makers}
-use Rattle.language_ties.specs.SharedSymbols.{IsBoundIn, KeepsClear, AllKeepClear}
-use Rattle.language_ties.specs.declared.bound_as.BoundAs.{BoundAs}
+use Rattle.language_ties.specs.EcmaScript.{is_ecmascript_kind}
+use Rattle.language_ties.specs.Environments.{Environment, same_environment, environments, innermost, passed, takes_variables, variable_environment}
+use Rattle.language_ties.specs.Moved.{is_lexical_in}
 use Rattle.language_ties.specs.declared.bound_as.BoundAs.TheVariants as bound
-use Rattle.language_ties.specs.declared.environment_kind.EnvironmentKind.{EnvironmentKind}
 use Rattle.language_ties.specs.declared.environment_kind.EnvironmentKind.TheVariants as environment
-use Rattle.language_ties.proofs.EnvironmentsRound.{IsKnown, KnownAt, known_program}
-use Rattle.language_ties.proofs.UndeclaredNames.{each_identifier}
-use Rattle.language_ties.proofs.agree.FamiliarPlaces.{ParentsFit, AllKnown, IsFamiliar, FamiliarAt, familiar_program, known_among}
+use Rattle.language_ties.proofs.agree.FamiliarPlaces.{ParentsFit}
 use Rattle.language_ties.proofs.agree.Identifiers.{same_again}
-use Rattle.language_ties.proofs.agree.KnownBounds.{some_is, LeavesThere, KnownBound, bodiless}
-use Rattle.language_ties.proofs.agree.KnownNodes.{node_at}
-use Rattle.language_ties.proofs.agree.MadeEnvironments.{environment_kind_is, may_make, IsMadeBy, made_in, EndsAtProgram}
-use Rattle.language_ties.proofs.agree.PlainBounds.{by_one}
-use Rattle.language_ties.proofs.caught.CaughtBounds.{IsTakenBy, taken_by}
-use Rattle.language_ties.proofs.caught.CaughtOnce.{caught_once}
-use Rattle.language_ties.proofs.caught.CaughtNames.{catch_environment, catch_kind}
-use Rattle.language_ties.proofs.caught.ClausePlaces.{UnderClause, IsClausal, ClausalAt, clausal_program, body_kind}
-use Rattle.language_ties.proofs.caught.PassedBodies.{clause_passed}
+use Rattle.language_ties.proofs.agree.MadeEnvironments.{EndsAtProgram}
 use Rattle.language_ties.proofs.clear.ParameterPlaces.{parameter_takes}
-use Rattle.language_ties.proofs.clear.PassedScopes.{IsPassed, passes_scope, passed_takes_none, before_among, scope_of_number, route_passes, taking_takes, variables_taken}
-use Rattle.language_ties.proofs.clear.SingleNames.{identifier_of, same_declaration, declared_once, differ, fewer}
-use Rattle.language_ties.proofs.moved.OnWays.{IsOnWay, IsRouteOnWay, plain_on_way, own_on_way, left_on_way}
-use Rattle.language_ties.proofs.moved.Settled.{settled, settled_bounds, settled_name, settled_identifier, settled_among}
-use Rattle.language_ties.proofs.own_names.AnyBounds.{AnyBound, any_bound, IsDeclared, is_declared, declared_known, declared_own, IsMade, is_made, own_kind}
-use Rattle.language_ties.proofs.own_names.OwnBounds.{IsOfExpression, OwnBound}
-use Rattle.language_ties.proofs.own_names.PassedClasses.{HoldsLoose, LooseAt, loose_program, passes_no_class}
-use Rattle.language_ties.proofs.symbols.OneSymbol.{of_map, each_at, declared_at, DeclarationOf, StaysThere}
-use Rattle.language_ties.proofs.symbols.ScopeOpeners.{openers, IsOpened, AllOpened, IsPlaceOpened, places_opened}
+use Rattle.language_ties.proofs.clear.PassedScopes.{variables_taken}
+use Rattle.language_ties.proofs.symbols.OneSymbol.{declared_at}
 
 never : true ≡ false → ⊥
 never h = absurd cc

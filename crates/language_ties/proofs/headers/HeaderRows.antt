@@ -1,7 +1,7 @@
 -- What names in headers mean, and that the tables say the same, by computation.
 use lib.Utf8.{encode}
 use Rattle.std.specs.Str.{chars}
-use Rattle.std.proofs.Common.{◌≡◌, [], ◌∷◌, None, codes, true, false, refl}
+use Rattle.std.proofs.Common.{◌≡◌, [], None, codes, true, refl}
 use Rattle.semantic_tree.specs.Faults.{first_fault}
 use Rattle.language_ties.specs.Agreement.{differing}
 use Rattle.language_ties.specs.EcmaScript.{is_ecmascript}

@@ -341,26 +341,33 @@ module _ (p : Tree) (h : first_fault p ≡ None) (e : is_ecmascript p ≡ true) 
                   let whole : passed_before is_var l.place.chain ≡ s ∷ passed_before is_var ss = ap (passed_before is_var) w ∙ ap (λ b. cond b [] (s ∷ passed_before is_var ss)) v in
                   (subst (Among t) (sym whole) (inr k), λ q. head_apart s ss w t (inner_among ss t k) (q ∙ stands s (passed_before is_var ss) whole))
 
+      -- what bars it would be itself
+      bars_none : (k : Bars ds D (outside D.route.passed)) (b : Bound) → Among b ws → b.name ≡ x → b.identifier ≡ identifier_of (placed ds k.other) → IsWritten b → ⊥
+      bars_none k b i m j v =
+          let two : (Among k.scope (passed_before is_var l.place.chain)) × (k.scope.number ≡ stands_in D → ⊥) = behind_first k.scope k.among in
+          let mine : IsOnWay c k.scope.number = passed_on_way l.place l.entered c l.left.passing k.scope two.0 in
+          let there : Among (placed ds k.other) (declarations (events (steps p))) = placed_written k.other k.written in
+          let same : placed ds k.other ≡ placed ds v.declaration = same_declaration (placed ds k.other) (placed ds v.declaration) (declarations (events (steps p))) there v.among
+          (sym j ∙ sym v.identifier ∙ sym (ap (λ z. z.identifier) (placed_naming ds v.declaration.how v.declaration))) (declared_once p (identifier_of (placed ds k.other)) h numbered) in
+          let stands : stands_in v.declaration ≡ k.scope.number = sym (stands_placed ds v.declaration.how v.declaration) ∙ ap stands_in (sym same) ∙ stands_placed ds k.other.how k.other ∙ k.stands in
+          let theirs : IsOnWay b k.scope.number = subst (IsOnWay b) stands (stands_on_way b v.declaration v.on_way) in
+          let one : b ≡ c = alone b i (m ∙ sym n) mine.passes theirs.passes mine.among theirs.among (some_is mine.passes.maker theirs.passes.maker (sym mine.opened ∙ theirs.opened), mine.no_body ∙ sym theirs.no_body) in
+          let mine_there : Among (placed ds D) (declarations (events (steps p))) = placed_there l.place D l.entered l.left.told in
+          let itself : placed ds k.other ≡ placed ds D = same_declaration (placed ds k.other) (placed ds D) (declarations (events (steps p))) there mine_there
+          (sym j ∙ ap (λ z. z.identifier) one ∙ sym l.left.identifier ∙ sym (ap (λ z. z.identifier) (placed_naming ds D.how D))) (declared_once p (identifier_of (placed ds k.other)) h numbered) in
+          two.1 (sym k.stands ∙ sym (stands_placed ds k.other.how k.other) ∙ ap stands_in itself ∙ stands_placed ds D.how D)
+
       unbarred : is_barred ds D (outside D.route.passed) ≡ false
       unbarred = elim (cases_Bool (is_barred ds D (outside D.route.passed))) [
         | inr w ↦ w
-        | inl w ↦ (let k : Bars ds D (outside D.route.passed) = what_bars ds D (outside D.route.passed) w in
-            let two : (Among k.scope (passed_before is_var l.place.chain)) × (k.scope.number ≡ stands_in D → ⊥) = behind_first k.scope k.among in
-            let mine : IsOnWay c k.scope.number = passed_on_way l.place l.entered c l.left.passing k.scope two.0 in
-            let there : Among (placed ds k.other) (declarations (events (steps p))) = placed_written k.other k.written in
-            let named : (placed ds k.other).naming.name ≡ x = ap (λ m. m.name) (placed_naming ds k.other.how k.other) ∙ k.named ∙ l.left.named ∙ n in
-            let (b, i, m, j) = each_identifier p.source_type x (λ z. (b : Bound) × Among b ws × (b.name ≡ x) × (b.identifier ≡ z)) p h e (λ b i m. (b, i, m, refl)) (placed ds k.other) there named in
-            let v : IsWritten b = is_written b i m in
-            let same : placed ds k.other ≡ placed ds v.declaration = same_declaration (placed ds k.other) (placed ds v.declaration) (declarations (events (steps p))) there v.among
-            (sym j ∙ sym v.identifier ∙ sym (ap (λ z. z.identifier) (placed_naming ds v.declaration.how v.declaration))) (declared_once p (identifier_of (placed ds k.other)) h numbered) in
-            let stands : stands_in v.declaration ≡ k.scope.number = sym (stands_placed ds v.declaration.how v.declaration) ∙ ap stands_in (sym same) ∙ stands_placed ds k.other.how k.other ∙ k.stands in
-            let theirs : IsOnWay b k.scope.number = subst (IsOnWay b) stands (stands_on_way b v.declaration v.on_way) in
-            let one : b ≡ c = alone b i (m ∙ sym n) mine.passes theirs.passes mine.among theirs.among (some_is mine.passes.maker theirs.passes.maker (sym mine.opened ∙ theirs.opened), mine.no_body ∙ sym theirs.no_body) in
-            let mine_there : Among (placed ds D) (declarations (events (steps p))) = placed_there l.place D l.entered l.left.told in
-            let itself : placed ds k.other ≡ placed ds D = same_declaration (placed ds k.other) (placed ds D) (declarations (events (steps p))) there mine_there
-            (sym j ∙ ap (λ z. z.identifier) one ∙ sym l.left.identifier ∙ sym (ap (λ z. z.identifier) (placed_naming ds D.how D))) (declared_once p (identifier_of (placed ds k.other)) h numbered) in
-            absurd (two.1 (sym k.stands ∙ sym (stands_placed ds k.other.how k.other) ∙ ap stands_in itself ∙ stands_placed ds D.how D)))
+        | inl w ↦ absurd (go (what_bars ds D (outside D.route.passed) w))
       ]
+        where
+          go : Bars ds D (outside D.route.passed) → ⊥
+          go k =
+              let named : (placed ds k.other).naming.name ≡ x = ap (λ m. m.name) (placed_naming ds k.other.how k.other) ∙ k.named ∙ l.left.named ∙ n in
+              let (b, i, m, j) = each_identifier p.source_type x (λ z. (b : Bound) × Among b ws × (b.name ≡ x) × (b.identifier ≡ z)) p h e (λ b i m. (b, i, m, refl)) (placed ds k.other) (placed_written k.other k.written) named in
+              bars_none k b i m j (is_written b i m)
 
       -- so it is placed as it is written
       pub placed_as_left : placed ds D ≡ D
