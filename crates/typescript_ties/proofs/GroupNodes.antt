@@ -8,7 +8,7 @@ use Rattle.semantic_kinds.specs.declared.role.Role.TheVariants as role
 use Rattle.semantic_tree.specs.Views.{is, child_of}
 use Rattle.semantic_tree.specs.declared.node.Node.{Node}
 use Rattle.semantic_model.specs.Entries.{Among}
-use Rattle.typescript_ties.specs.Containers.{Container, container_of, bound_container, members_of, id_text, module_member_name, enum_members, is_exported_under, is_one_of_kind, is_of_signature, parameter_containers, function_containers, containers_by}
+use Rattle.typescript_ties.specs.Containers.{Container, container_of, bound_container, members_of, id_name, module_member_name, enum_members, is_exported_under, is_one_of_kind, is_of_signature, parameter_containers, function_containers, containers_by}
 use Rattle.typescript_ties.specs.declared.container_kind.ContainerKind.TheVariants as container
 
 -- all of a list do
@@ -72,10 +72,10 @@ module _ (s : SourceType) (x child : Node) (path : List Node) (outer : List Cont
   all_stand kind.WithStatement = stand_if x.node_id (is_kind_of_statement child.kind child.text) (container_of container.Block x ∷ []) (refl, tt)
   all_stand kind.TSNamespaceDeclaration =
       stand_unless x.node_id (is_one_of_kind kind.BindingIdentifier child)
-      (container_of container.ModuleBlock x ∷ members_of container.NamespaceMembers x.node_id (id_text (child_of role.Id x)) (bound_container (is_exported_under s path) outer) ∷ []) (refl, (refl, tt))
+      (container_of container.ModuleBlock x ∷ members_of container.NamespaceMembers x.node_id (id_name (child_of role.Id x)) (bound_container (is_exported_under s path) outer) ∷ []) (refl, (refl, tt))
   all_stand kind.TSExternalModuleDeclaration =
       stand_if x.node_id (is_one_of_kind kind.TSModuleBlock child)
-      (container_of container.ModuleBlock x ∷ members_of container.ModuleMembers x.node_id (module_member_name (id_text (child_of role.Id x))) (bound_container false outer) ∷ []) (refl, (refl, tt))
+      (container_of container.ModuleBlock x ∷ members_of container.ModuleMembers x.node_id (module_member_name (child_of role.Id x)) (bound_container false outer) ∷ []) (refl, (refl, tt))
   all_stand kind.TSGlobalDeclaration = (refl, (refl, tt))
   all_stand kind.TSEnumBody = enums_stand path
   all_stand _ = tt

@@ -11,7 +11,7 @@ use Rattle.semantic_tree.specs.Views.{is, child_of, is_child_in}
 use Rattle.semantic_tree.specs.declared.node.Node.{Node}
 use Rattle.semantic_model.specs.Entries.{Among}
 use Rattle.semantic_model.specs.Inside.{is_inside}
-use Rattle.typescript_ties.specs.Containers.{Container, same_container_kind, is_container, container_of, bound_container, members_of, id_text, module_member_name, enum_members, is_exported_under, is_one_of_kind, is_of_signature, parameter_containers, function_containers, containers_by}
+use Rattle.typescript_ties.specs.Containers.{Container, same_container_kind, is_container, container_of, bound_container, members_of, id_name, module_member_name, enum_members, is_exported_under, is_one_of_kind, is_of_signature, parameter_containers, function_containers, containers_by}
 use Rattle.typescript_ties.specs.SimpleNames.{is_apart}
 use Rattle.typescript_ties.specs.declared.container_kind.ContainerKind.TheVariants as container
 use Rattle.typescript_ties.proofs.ChildPlaces.{is_told_by_role, tells_by_kind, is_function}
@@ -187,14 +187,14 @@ module _ (s : SourceType) (x ch node : Node) (path : List Node) (outer : List Co
       (inside_is (is_inside kind.SwitchStatement r) true (is_one_of_kind kind.SwitchCase node) (t refl) i) (inl refl)))
   member_of kind.WithStatement c0 w i t a = absurd (never w)
   member_of kind.TSNamespaceDeclaration c0 w i t a =
-      let d : Container = members_of container.NamespaceMembers x.node_id (id_text (child_of role.Id x)) (bound_container (is_exported_under s path) outer) in
+      let d : Container = members_of container.NamespaceMembers x.node_id (id_name (child_of role.Id x)) (bound_container (is_exported_under s path) outer) in
       let l : List Container = container_of container.ModuleBlock x ∷ d ∷ [] in
       let q : is_one_of_kind kind.BindingIdentifier node ≡ false = not-true (is_one_of_kind kind.BindingIdentifier node) (inside_is (is_inside kind.TSNamespaceDeclaration r) false (is_one_of_kind kind.BindingIdentifier node) (t refl) i) in
       two kind.TSNamespaceDeclaration (container_of container.ModuleBlock x) d c0 (among_unless (is_one_of_kind kind.BindingIdentifier ch) l c0 a)
       (plain_member kind.TSNamespaceDeclaration (container_of container.ModuleBlock x) refl refl refl refl refl (λ e. let_out (is_one_of_kind kind.BindingIdentifier node) (container_of container.ModuleBlock x) l q (inl refl)))
       (plain_member kind.TSNamespaceDeclaration d refl refl refl refl refl (λ e. let_out (is_one_of_kind kind.BindingIdentifier node) d l q (inr (inl refl))))
   member_of kind.TSExternalModuleDeclaration c0 w i t a =
-      let d : Container = members_of container.ModuleMembers x.node_id (module_member_name (id_text (child_of role.Id x))) (bound_container false outer) in
+      let d : Container = members_of container.ModuleMembers x.node_id (module_member_name (child_of role.Id x)) (bound_container false outer) in
       let l : List Container = container_of container.ModuleBlock x ∷ d ∷ [] in
       let q : is_one_of_kind kind.TSModuleBlock node ≡ true = inside_is (is_inside kind.TSExternalModuleDeclaration r) true (is_one_of_kind kind.TSModuleBlock node) (t refl) i in
       two kind.TSExternalModuleDeclaration (container_of container.ModuleBlock x) d c0 (among_if (is_one_of_kind kind.TSModuleBlock ch) l c0 a)

@@ -11,7 +11,7 @@ use Rattle.semantic_tree.specs.Views.{is, child_of, is_child_in}
 use Rattle.semantic_tree.specs.declared.node.Node.{Node}
 use Rattle.semantic_model.specs.Entries.{Among}
 use Rattle.semantic_model.specs.Inside.{is_inside}
-use Rattle.typescript_ties.specs.Containers.{Container, is_container, container_of, bound_container, members_of, id_text, module_member_name, enum_members, is_exported_under, is_one_of_kind, is_of_signature, parameter_containers, function_containers, containers_by}
+use Rattle.typescript_ties.specs.Containers.{Container, is_container, container_of, bound_container, members_of, id_name, module_member_name, enum_members, is_exported_under, is_one_of_kind, is_of_signature, parameter_containers, function_containers, containers_by}
 use Rattle.typescript_ties.specs.SimpleNames.{is_apart}
 use Rattle.typescript_ties.specs.declared.container_kind.ContainerKind.TheVariants as container
 use Rattle.typescript_ties.proofs.ChildPlaces.{same_truth, is_told_by_role, tells_by_kind, is_function}
@@ -159,12 +159,12 @@ module _ (s : SourceType) (x child : Node) (path : List Node) (outer : List Cont
       (λ i. single kind.SwitchStatement (container_of container.Block x) [] i refl refl refl refl (λ q. absurd (never (sym q))))
   head_of kind.WithStatement w t = absurd (never w)
   head_of kind.TSNamespaceDeclaration w t =
-      let d : Container = members_of container.NamespaceMembers x.node_id (id_text (child_of role.Id x)) (bound_container (is_exported_under s path) outer) in
+      let d : Container = members_of container.NamespaceMembers x.node_id (id_name (child_of role.Id x)) (bound_container (is_exported_under s path) outer) in
       tested_not kind.TSNamespaceDeclaration (is_one_of_kind kind.BindingIdentifier child) (container_of container.ModuleBlock x ∷ d ∷ [])
       (λ i. not-true (is_one_of_kind kind.BindingIdentifier child) (inside_is (is_inside kind.TSNamespaceDeclaration r) false (is_one_of_kind kind.BindingIdentifier child) (t refl) i)) (λ i. false_not (is_one_of_kind kind.BindingIdentifier child) (outside_is (is_inside kind.TSNamespaceDeclaration r) false (is_one_of_kind kind.BindingIdentifier child) (t refl) i))
       (λ i. double kind.TSNamespaceDeclaration (container_of container.ModuleBlock x) d i refl refl refl refl refl refl refl refl)
   head_of kind.TSExternalModuleDeclaration w t =
-      let d : Container = members_of container.ModuleMembers x.node_id (module_member_name (id_text (child_of role.Id x))) (bound_container false outer) in
+      let d : Container = members_of container.ModuleMembers x.node_id (module_member_name (child_of role.Id x)) (bound_container false outer) in
       tested kind.TSExternalModuleDeclaration (is_one_of_kind kind.TSModuleBlock child) (container_of container.ModuleBlock x ∷ d ∷ [])
       (inside_is (is_inside kind.TSExternalModuleDeclaration r) true (is_one_of_kind kind.TSModuleBlock child) (t refl)) (outside_is (is_inside kind.TSExternalModuleDeclaration r) true (is_one_of_kind kind.TSModuleBlock child) (t refl))
       (λ i. double kind.TSExternalModuleDeclaration (container_of container.ModuleBlock x) d i refl refl refl refl refl refl refl refl)
@@ -173,5 +173,5 @@ module _ (s : SourceType) (x child : Node) (path : List Node) (outer : List Cont
     where
       by : (ps : List Node) → Head kind.TSEnumBody (enum_members s x ps outer ∷ [])
       by [] = single kind.TSEnumBody (container_of container.EnumMembers x) [] refl refl refl refl refl (λ q. absurd (never (sym q)))
-      by (e ∷ ps) = single kind.TSEnumBody (members_of container.EnumMembers x.node_id (id_text (child_of role.Id e)) (bound_container (is_exported_under s ps) outer)) [] refl refl refl refl refl (λ q. absurd (never (sym q)))
+      by (e ∷ ps) = single kind.TSEnumBody (members_of container.EnumMembers x.node_id (id_name (child_of role.Id e)) (bound_container (is_exported_under s ps) outer)) [] refl refl refl refl refl (λ q. absurd (never (sym q)))
   head_of _ w t = none_head _ refl

@@ -22,3 +22,6 @@ pub mod OutsideGroups
 pub mod AgreedPlaces
 pub mod ReferredNodes
 pub mod UntangledTies
+pub mod MergedBlocks
+pub mod SharedMembers
+pub mod OwnMembers

@@ -10,7 +10,7 @@ use Rattle.semantic_tree.specs.Views.{child_of, is_child_in}
 use Rattle.semantic_tree.specs.declared.node.Node.{Node}
 use Rattle.semantic_model.specs.Entries.{Among}
 use Rattle.semantic_model.specs.Inside.{is_inside}
-use Rattle.typescript_ties.specs.Containers.{Container, same_container_kind, container_of, bound_container, members_of, id_text, module_member_name, is_exported_under, is_one_of_kind, is_of_signature, parameter_containers, containers_by}
+use Rattle.typescript_ties.specs.Containers.{Container, same_container_kind, container_of, bound_container, members_of, id_name, module_member_name, is_exported_under, is_one_of_kind, is_of_signature, parameter_containers, containers_by}
 use Rattle.typescript_ties.specs.SimpleNames.{is_apart}
 use Rattle.typescript_ties.specs.declared.container_kind.ContainerKind.TheVariants as container
 use Rattle.typescript_ties.proofs.ChildPlaces.{is_told_by_role, tells_by_kind}
@@ -71,11 +71,11 @@ module _ (s : SourceType) (x child : Node) (path : List Node) (outer : List Cont
   aside_of kind.WithStatement c w i t a = absurd (never w)
   aside_of kind.TSNamespaceDeclaration c w i t a =
       none_unless (is_one_of_kind kind.BindingIdentifier child)
-      (container_of container.ModuleBlock x ∷ members_of container.NamespaceMembers x.node_id (id_text (child_of role.Id x)) (bound_container (is_exported_under s path) outer) ∷ []) c
+      (container_of container.ModuleBlock x ∷ members_of container.NamespaceMembers x.node_id (id_name (child_of role.Id x)) (bound_container (is_exported_under s path) outer) ∷ []) c
       (false_not (is_one_of_kind kind.BindingIdentifier child) (outside_is (is_inside kind.TSNamespaceDeclaration r) false (is_one_of_kind kind.BindingIdentifier child) (t refl) i)) a
   aside_of kind.TSExternalModuleDeclaration c w i t a =
       none_if (is_one_of_kind kind.TSModuleBlock child)
-      (container_of container.ModuleBlock x ∷ members_of container.ModuleMembers x.node_id (module_member_name (id_text (child_of role.Id x))) (bound_container false outer) ∷ []) c
+      (container_of container.ModuleBlock x ∷ members_of container.ModuleMembers x.node_id (module_member_name (child_of role.Id x)) (bound_container false outer) ∷ []) c
       (outside_is (is_inside kind.TSExternalModuleDeclaration r) true (is_one_of_kind kind.TSModuleBlock child) (t refl) i) a
   aside_of kind.TSGlobalDeclaration c w i t a = absurd (never i)
   aside_of kind.TSEnumBody c w i t a = absurd (never i)

@@ -45,7 +45,7 @@ never h = absurd cc
 
 -- ---- lists
 
-flat_among : {A B : Type 0} → (g : A → List B) (xs : List A) (x : A) (y : B) → Among x xs → Among y (g x) → Among y (flat_map g xs)
+pub flat_among : {A B : Type 0} → (g : A → List B) (xs : List A) (x : A) (y : B) → Among x xs → Among y (g x) → Among y (flat_map g xs)
 flat_among g [] x y a b = absurd a
 flat_among g (z ∷ xs) x y (inl e) b = among_left y (g z) (flat_map g xs) (subst (λ w. Among y (g w)) (sym e) b)
 flat_among g (z ∷ xs) x y (inr a) b = among_right y (g z) (flat_map g xs) (flat_among g xs x y a b)

@@ -41,7 +41,7 @@ use Rattle.program_laws.specs.SymbolNames.{IsNamed}
 use Rattle.program_laws.proofs.TiedNames.{ties_have_names, declarations_have_names}
 use Rattle.binding_laws.specs.SeenDeclarations.{made_of, seen_alone, with_declaration, bound_by_all, is_before_body, stands_before_body}
 use Rattle.tangle_model.specs.Mention.{mentions}
-use Rattle.tangle_model.specs.Tangled.{is_inner_alias, may_be_passed, is_name_of, is_shared, any_symbol, holds_in, all_reasons, tangle_reasons}
+use Rattle.tangle_model.specs.Tangled.{is_inner_alias, may_be_passed, is_merged_member, is_name_of, is_shared, any_symbol, holds_in, all_reasons, tangle_reasons}
 use Rattle.tangle_model.specs.declared.reason.Reason.{Reason}
 use Rattle.tangle_model.specs.declared.reason.Reason.TheVariants as reason
 use Rattle.typescript_ties.specs.AskedMeanings.{asked_by_reference}
@@ -49,10 +49,11 @@ use Rattle.typescript_ties.specs.NamedDeclarations.{named_in}
 use Rattle.typescript_ties.specs.Resolved.{Resolved, nowhere, declared_in, resolve, NameUse, name_use, used_at}
 use Rattle.typescript_ties.specs.ResolvedTies.{is_that_symbol, is_untied, is_tied_to_each, is_tied_as_resolved, is_use_tied, parting_uses}
 use Rattle.typescript_ties.specs.SeenTogether.{is_in_scope, is_seen_from, bound_together, asked_together}
-use Rattle.typescript_ties.specs.SimpleNames.{is_common, IsSimpleName}
+use Rattle.typescript_ties.specs.SimpleNames.{is_common, HasOwnMembers, IsSimpleName}
 use Rattle.typescript_ties.proofs.AgreedPlaces.{Agrees, AllHave, IsMissed, Matches, AgreesRound, AgreedStep, looked_up, agreed_places, among_filter, filter_among, any_there}
 use Rattle.typescript_ties.proofs.FitsTogether.{meets_union, AreBoundAs, bound_as_one}
 use Rattle.typescript_ties.proofs.HeadPlaces.{round_place}
+use Rattle.typescript_ties.proofs.OwnMembers.{own_members}
 use Rattle.typescript_ties.proofs.PlainFold.{PlainState}
 use Rattle.typescript_ties.proofs.ReferredNodes.{IsReferred, is_referred}
 use Rattle.typescript_ties.proofs.SimpleDeclarations.{is_plain, one_symbol}
@@ -275,6 +276,12 @@ module _ (p : Tree) (h : first_fault p ≡ None) (common : is_common p ≡ true)
       by true false i j k = absurd (never (sym j))
       by false u i j k = absurd (never (sym i))
 
+  unmerged : any_symbol (is_merged_member (mentions p) (tables_of p)) (tables_of p).symbols x ≡ false
+  unmerged = holds_not reason.MergedMember (inr (inr (inr (inr (inr (inr (inl refl)))))))
+
+  alone_members : HasOwnMembers p x
+  alone_members = own_members p h common typed numbered x name.simply name.enums unmerged
+
   plain : PlainState x (run start (events (steps p)))
   plain = in_end p h x (is_plain p h common typed numbered x name.simply)
 
@@ -290,7 +297,7 @@ module _ (p : Tree) (h : first_fault p ≡ None) (common : is_common p ≡ true)
     abbrev w : ℕ
     w = way_or_read q.cursor
 
-    tied_is : referred.entry.symbol_id ≡ looked_up p h common typed numbered x no_arguments name.simply name.alone name.types w q.chain
+    tied_is : referred.entry.symbol_id ≡ looked_up p h common typed numbered x no_arguments name.simply alone_members name.types w q.chain
     tied_is = tied_together p h x (is_plain p h common typed numbered x name.simply) referred.number (reference_at q) referred.entry referred.reference referred.row is_x
 
     -- it isn't free
@@ -303,7 +310,7 @@ module _ (p : Tree) (h : first_fault p ≡ None) (common : is_common p ≡ true)
         absurd (omega (arith, zero_is))
 
     -- nor is a namespace passed that is no type
-    module _ (m : IsMissed p h common typed numbered x no_arguments name.simply name.alone name.types w) where
+    module _ (m : IsMissed p h common typed numbered x no_arguments name.simply alone_members name.types w) where
       m_named : m.made.declaration.naming.name ≡ x
       m_named = elim (name_tells m.made.declaration.naming.name x) [ inl j ↦ j.1 | inr j ↦ absurd (never (sym (and_second (m.made.declaration.route.target.number == m.scope) (bytes_eq m.made.declaration.naming.name x) m.in_it) ∙ j.0)) ]
 
@@ -372,7 +379,7 @@ module _ (p : Tree) (h : first_fault p ≡ None) (common : is_common p ≡ true)
           in_scope = subst (λ d. is_in_scope d x y ≡ true) (plain.apart c m.scope m.number bound_own bound_there) in_own
 
       -- the look-up doesn't find its symbol
-      never_that : looked_up p h common typed numbered x no_arguments name.simply name.alone name.types w q.chain ≡ Some m.number → ⊥
+      never_that : looked_up p h common typed numbered x no_arguments name.simply alone_members name.types w q.chain ≡ Some m.number → ⊥
       never_that e =
           let found : IsFoundAt p x w m.number = found_at p x w no_arguments m.number q.chain e in
           let more : (mask : ℕ) → meets found.flags mask ≡ true → meets m.flags mask ≡ true = λ mask i. from_scope found.scope (bound_from (filter (is_seen_from found.scope x) (made_of p)) m.number found.flags mask found.bound i) in
@@ -395,22 +402,22 @@ module _ (p : Tree) (h : first_fault p ≡ None) (common : is_common p ≡ true)
               let same : y ≡ m.number = two_share (tables_of p).symbols y m.number other.symbol missed_symbol.symbol x other.is_there missed_symbol.is_there other.named missed_symbol.named alone in
               never_that (sym tied_is ∙ e ∙ ap Some same)
 
-    tied_to_all : (ids : List ℕ) (y : ℕ) → AllHave p h common typed numbered x no_arguments name.simply name.alone name.types ids y → list_all (λ i. is_that_symbol y (symbol_at (analysis_of p) i)) ids ≡ true
+    tied_to_all : (ids : List ℕ) (y : ℕ) → AllHave p h common typed numbered x no_arguments name.simply alone_members name.types ids y → list_all (λ i. is_that_symbol y (symbol_at (analysis_of p) i)) ids ≡ true
     tied_to_all [] y k = refl
     tied_to_all (i ∷ ids) y k =
         let one : is_that_symbol y (symbol_at (analysis_of p) i) ≡ true = ap (is_that_symbol y) k.0 ∙ eq-eqb y y refl in
         rw one (tied_to_all ids y k.1)
 
-    agrees_so : (o : Option ℕ) (r : Resolved) → referred.entry.symbol_id ≡ o → Agrees p h common typed numbered x no_arguments name.simply name.alone name.types o r → is_tied_as_resolved (analysis_of p) q.node.node_id r ≡ true
+    agrees_so : (o : Option ℕ) (r : Resolved) → referred.entry.symbol_id ≡ o → Agrees p h common typed numbered x no_arguments name.simply alone_members name.types o r → is_tied_as_resolved (analysis_of p) q.node.node_id r ≡ true
     agrees_so o nowhere e a = ap is_untied (referred.tied ∙ e ∙ a)
     agrees_so o (declared_in c ids) e a = ap (is_tied_to_each (analysis_of p) ids) (referred.tied ∙ e ∙ a.1) ∙ tied_to_all ids a.0 a.2
 
     pub use_agrees : is_use_tied (analysis_of p) (named_in p) (name_use p.source_type q) ≡ true
     use_agrees =
-        let agree : AgreesRound p h common typed numbered x no_arguments name.simply name.alone name.types q = each_among (AgreedStep p h common typed numbered x no_arguments name.simply name.alone name.types) (steps p) (entering q) (agreed_places p h common typed numbered x no_arguments name.simply name.alone name.types) entered in
-        let matches : Matches p h common typed numbered x no_arguments name.simply name.alone name.types w (looked_up p h common typed numbered x no_arguments name.simply name.alone name.types w q.chain) (resolve (named_in p) (round_place p q) (asked_by_reference q.path) x) = agree (asked_by_reference q.path) w (name.ways q entered refers is_x) in
+        let agree : AgreesRound p h common typed numbered x no_arguments name.simply alone_members name.types q = each_among (AgreedStep p h common typed numbered x no_arguments name.simply alone_members name.types) (steps p) (entering q) (agreed_places p h common typed numbered x no_arguments name.simply alone_members name.types) entered in
+        let matches : Matches p h common typed numbered x no_arguments name.simply alone_members name.types w (looked_up p h common typed numbered x no_arguments name.simply alone_members name.types w q.chain) (resolve (named_in p) (round_place p q) (asked_by_reference q.path) x) = agree (asked_by_reference q.path) w (name.ways q entered refers is_x) in
         let there : is_tied_as_resolved (analysis_of p) q.node.node_id (resolve (named_in p) (round_place p q) (asked_by_reference q.path) x) ≡ true = elim matches [
-          | inl a ↦ agrees_so (looked_up p h common typed numbered x no_arguments name.simply name.alone name.types w q.chain) (resolve (named_in p) (round_place p q) (asked_by_reference q.path) x) tied_is a
+          | inl a ↦ agrees_so (looked_up p h common typed numbered x no_arguments name.simply alone_members name.types w q.chain) (resolve (named_in p) (round_place p q) (asked_by_reference q.path) x) tied_is a
           | inr b ↦ elim b [
             | inl m ↦ absurd (never_missed m)
             | inr f ↦ absurd (never_free (tied_is ∙ f.free))

@@ -1,5 +1,5 @@
 -- The containers round a place, innermost first: what has declarations of its own in TypeScript, by the nodes above the place.
-use Rattle.std.specs.Prelude.{ℕ, ◌==◌, List, [], ◌∷◌, ◌++◌, Bool, true, false, ◌&&◌, ◌||◌, not, Option, Some, None, cond, codes, bytes_eq}
+use Rattle.std.specs.Prelude.{ℕ, ◌==◌, List, [], ◌∷◌, ◌++◌, Bool, true, false, ◌&&◌, ◌||◌, not, Option, Some, None, cond, bytes_eq}
 use Rattle.std.specs.List.{list_any}
 use denote.Enum.Bare.{sameb}
 use Rattle.semantic_kinds.specs.Classes.{holds_kind, is_kind_of_statement}
@@ -91,23 +91,29 @@ abbrev pub path_below : Name → Container → Option MemberPath → MemberPath
 path_below name c None = record { root = c.node; names = name ∷ [] }
 path_below name c (Some m) = record { root = m.root; names = name ∷ m.names }
 
+-- a block without a name shares nothing
+abbrev pub path_if : Option Name → Container → Option MemberPath
+path_if None c = None
+path_if (Some name) c = Some (path_below name c c.members)
+
 -- the members of what is bound in the container by that name, at the node
-abbrev pub members_of : ContainerKind → ℕ → Name → Container → Container
-members_of k node name c = record { kind = k; node = node; members = Some (path_below name c c.members) }
+abbrev pub members_of : ContainerKind → ℕ → Option Name → Container → Container
+members_of k node name c = record { kind = k; node = node; members = path_if name c }
 
-abbrev pub id_text : Option Node → Name
-id_text None = []
-id_text (Some id) = id.text
+abbrev pub id_name : Option Node → Option Name
+id_name None = None
+id_name (Some id) = Some id.text
 
--- the name of a module isn't that of a namespace
-abbrev pub module_member_name : Name → Name
-module_member_name name = codes "'" ++ name
+-- the name of a module isn't that of a namespace: it begins with a quotation mark
+abbrev pub module_member_name : Option Node → Option Name
+module_member_name None = None
+module_member_name (Some id) = Some (39 ∷ id.text)
 
 -- the members of the enum above its body
 abbrev pub enum_members : SourceType → Node → List Node → List Container → Container
 enum_members s body [] outer = container_of container.EnumMembers body
 enum_members s body (x ∷ path) outer =
-    members_of container.EnumMembers body.node_id (id_text (child_of role.Id x)) (bound_container (is_exported_under s path) outer)
+    members_of container.EnumMembers body.node_id (id_name (child_of role.Id x)) (bound_container (is_exported_under s path) outer)
 
 -- ---- what a node has round a child
 
@@ -164,12 +170,12 @@ containers_by kind.WithStatement s x path outer child = block_containers (is_kin
 containers_by kind.TSNamespaceDeclaration s x path outer child =
     cond (is_one_of_kind kind.BindingIdentifier child) []
     (container_of container.ModuleBlock x
-    ∷ members_of container.NamespaceMembers x.node_id (id_text (child_of role.Id x)) (bound_container (is_exported_under s path) outer)
+    ∷ members_of container.NamespaceMembers x.node_id (id_name (child_of role.Id x)) (bound_container (is_exported_under s path) outer)
     ∷ [])
 containers_by kind.TSExternalModuleDeclaration s x path outer child =
     cond (is_one_of_kind kind.TSModuleBlock child)
     (container_of container.ModuleBlock x
-    ∷ members_of container.ModuleMembers x.node_id (module_member_name (id_text (child_of role.Id x))) (bound_container false outer)
+    ∷ members_of container.ModuleMembers x.node_id (module_member_name (child_of role.Id x)) (bound_container false outer)
     ∷ []) []
 containers_by kind.TSGlobalDeclaration s x path outer child =
     container_of container.ModuleBlock x ∷ record { kind = container.GlobalMembers; node = x.node_id; members = Some (record { root = 0; names = [] }) } ∷ []

@@ -72,7 +72,7 @@ is_simple d = is_simple_sort d.sort && not (is_apart d.container.kind)
 abbrev pub IsSimplyDeclared : Tree → Name → Type 0
 IsSimplyDeclared p x = (d : NamedDeclaration) → Among d (named_in p) → d.name ≡ x → is_simple d ≡ true
 
--- where it is a member, no other block shares the members
+-- where it is a member, no other block shares the members; of a name that is not tangled this follows, but for enums
 abbrev pub HasOwnMembers : Tree → Name → Type 0
 HasOwnMembers p x =
     (d : NamedDeclaration) → Among d (named_in p) → d.name ≡ x → (q : Place) → Among (entering q) (steps p) → (c : Container) → Among c (containers p.source_type q.node q.path)
@@ -95,6 +95,12 @@ abbrev pub AsksItsWays : Tree → Name → Type 0
 AsksItsWays p x =
     (q : Place) → Among (entering q) (steps p) → is kind.IdentifierReference q.node ≡ true → q.node.text ≡ x → is_way_of (asked_by_reference q.path) (way_or_read q.cursor) ≡ true
 
+-- and so it is of enums
+abbrev pub HasOwnEnums : Tree → Name → Type 0
+HasOwnEnums p x =
+    (d : NamedDeclaration) → Among d (named_in p) → d.name ≡ x → d.container.kind ≡ container.EnumMembers → (q : Place) → Among (entering q) (steps p) → (c : Container) → Among c (containers p.source_type q.node q.path)
+    → same_container d.container c ≡ true → d.container.node ≡ c.node
+
 -- where type parameters are declared, the name is one
 abbrev pub StandsWithTypes : Tree → Name → Type 0
 StandsWithTypes p x = (d : NamedDeclaration) → Among d (named_in p) → d.name ≡ x → is_container container.TypeParameters d.container ≡ true → d.sort ≡ sort.TypeParameter
@@ -102,6 +108,6 @@ StandsWithTypes p x = (d : NamedDeclaration) → Among d (named_in p) → d.name
 -- all of that
 pub record IsSimpleName (p : Tree) (x : Name) : Type 0 where
   pub simply : IsSimplyDeclared p x
-  pub alone : HasOwnMembers p x
+  pub enums : HasOwnEnums p x
   pub types : StandsWithTypes p x
   pub ways : AsksItsWays p x
