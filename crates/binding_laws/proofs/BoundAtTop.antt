@@ -14,7 +14,8 @@ use Rattle.semantic_model.specs.Step.{steps}
 use Rattle.semantic_model.proofs.fold.Actions.{unless_some}
 use Rattle.semantic_model.proofs.fold.Orders.{root_body}
 use Rattle.semantic_model.proofs.form.Shape.{has_form}
-use Rattle.binding_laws.specs.SeenDeclarations.{made_of, is_own_name}
+use Rattle.semantic_model.specs.TablesOf.{made_of}
+use Rattle.binding_laws.specs.SeenDeclarations.{is_own_name}
 use Rattle.binding_laws.specs.OneSymbol.{takes_by, first_scope}
 use Rattle.binding_laws.proofs.KeptSteps.{end_keeps}
 use Rattle.binding_laws.proofs.KeptSymbols.{Keeps, IsFreeBy}

@@ -29,7 +29,7 @@ use Rattle.walk_model.proofs.places.Nested.{AreNested, open_past, seen_past}
 use Rattle.walk_model.proofs.places.Routes.{grounded, HasVar, GoesOut, AllGoOut, entering_goes, placed_goes, not_var, Leaves}
 use Rattle.walk_model.proofs.refers.HeaderEnds.{flagged_prefix}
 use Rattle.binding_laws.specs.OneSymbol.{takes_by, VarScopesKeepNames}
-use Rattle.binding_laws.specs.SeenDeclarations.{made_of}
+use Rattle.semantic_model.specs.TablesOf.{made_of}
 use Rattle.binding_laws.proofs.CatchNames.{IsNotCaught, none_caught, IsCatchStep, catch_steps}
 use Rattle.binding_laws.proofs.CutEvents.{placed_plain}
 use Rattle.binding_laws.proofs.CutSteps.{same_length}

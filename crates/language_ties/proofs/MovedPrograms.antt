@@ -13,7 +13,7 @@ use Rattle.language_ties.specs.Agreement.{differing}
 use Rattle.language_ties.specs.Meaning.{meanings, unbound, bound}
 use Rattle.language_ties.specs.Misplaced.{has_misplaced}
 use Rattle.language_ties.specs.declared.environment_kind.EnvironmentKind.TheVariants.{Block, Body, Global, Parameters}
-use Rattle.language_ties.proofs.ProgramTrees.{marked, node, program}
+use Rattle.tangle_model.proofs.ProgramTrees.{marked, node, program}
 
 -- `switch (1) { case 1: function f() {} } f`
 abbrev pub in_case : Tree

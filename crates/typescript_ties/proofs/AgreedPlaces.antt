@@ -32,7 +32,8 @@ use Rattle.semantic_model.proofs.steps.EachStep.{EachOfTurn, each_left, each_of_
 use Rattle.semantic_model.proofs.steps.Turn.{Turn, turn_at}
 use Rattle.semantic_model.proofs.steps.TurnCases.{opening_case, ending_case, last_case}
 use Rattle.walk_model.proofs.places.Shapes.{holds_below}
-use Rattle.binding_laws.specs.SeenDeclarations.{made_of, bound_by_all}
+use Rattle.semantic_model.specs.TablesOf.{made_of}
+use Rattle.binding_laws.specs.SeenDeclarations.{bound_by_all}
 use Rattle.binding_laws.proofs.SymbolsAtNodes.{symbols_are_at_nodes}
 use Rattle.typescript_ties.specs.Containers.{Container, same_container_kind, same_members, same_container, is_container, no_container, outside_function, containers_by}
 use Rattle.typescript_ties.specs.MeaningSets.{MeaningSet, sort_meanings}

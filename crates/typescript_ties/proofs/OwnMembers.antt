@@ -23,7 +23,7 @@ use Rattle.semantic_model.specs.Fold.{State, Made, start, flags_of}
 use Rattle.semantic_model.specs.Hoist.{run}
 use Rattle.semantic_model.specs.Place.{Place}
 use Rattle.semantic_model.specs.Step.{entering, steps}
-use Rattle.semantic_model.specs.TablesOf.{tables_of, evals}
+use Rattle.semantic_model.specs.TablesOf.{tables_of, evals, made_of}
 use Rattle.semantic_model.specs.Tie.{seen_as}
 use Rattle.semantic_model.proofs.bindings.Owned.{kept_program}
 use Rattle.semantic_model.proofs.bindings.Owners.{IsSymbolOf}
@@ -31,7 +31,7 @@ use Rattle.semantic_model.proofs.form.Shape.{has_form}
 use Rattle.semantic_model.proofs.lists.BindingLaws.{get_among}
 use Rattle.semantic_model.proofs.lists.Members.{among_at}
 use Rattle.semantic_model.proofs.once.ListedUnder.{name_tells}
-use Rattle.binding_laws.specs.SeenDeclarations.{made_of, bound_by_all}
+use Rattle.binding_laws.specs.SeenDeclarations.{bound_by_all}
 use Rattle.tangle_model.specs.Mention.{Mention, noted_by, noted_at, mentions}
 use Rattle.tangle_model.specs.Surroundings.{around_under}
 use Rattle.tangle_model.specs.Tangled.{merged_openers, is_merged_member, any_symbol}

@@ -21,7 +21,8 @@ use Rattle.semantic_model.specs.Inside.{is_inside, is_in_header}
 use Rattle.semantic_model.specs.Place.{Place, OpenScope}
 use Rattle.semantic_model.specs.Step.{entering, steps}
 use Rattle.semantic_model.proofs.once.ListedUnder.{name_tells}
-use Rattle.binding_laws.specs.SeenDeclarations.{made_of, is_own_name, stands_before_body, is_before_body}
+use Rattle.semantic_model.specs.TablesOf.{made_of}
+use Rattle.binding_laws.specs.SeenDeclarations.{is_own_name, stands_before_body, is_before_body}
 use Rattle.typescript_ties.specs.Containers.{Container, MemberPath, same_container_kind, same_names, same_members, same_container, is_container, is_of_signature, containers_by}
 use Rattle.typescript_ties.specs.NamedDeclarations.{NamedDeclaration, named_in}
 use Rattle.typescript_ties.specs.Resolved.{has_declared}

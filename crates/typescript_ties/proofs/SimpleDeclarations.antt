@@ -25,7 +25,7 @@ use Rattle.semantic_model.proofs.form.Shape.{has_form}
 use Rattle.semantic_model.proofs.lists.Members.{among_left, among_right, among_last}
 use Rattle.program_laws.proofs.DeclaredNodes.{among_flat}
 use Rattle.binding_laws.specs.OneSymbol.{NoneTakes, BindsIn, takes_by, first_scope}
-use Rattle.binding_laws.specs.SeenDeclarations.{made_of}
+use Rattle.semantic_model.specs.TablesOf.{made_of}
 use Rattle.binding_laws.proofs.OneSymbolEach.{one_symbol_each}
 use Rattle.typescript_ties.specs.Containers.{Container}
 use Rattle.typescript_ties.specs.DeclaredNames.{told_to_tables, told_by_language}

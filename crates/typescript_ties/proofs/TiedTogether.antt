@@ -12,7 +12,7 @@ use Rattle.semantic_model.specs.Hoist.{run}
 use Rattle.semantic_model.specs.Place.{OpenScope}
 use Rattle.semantic_model.specs.Reference.{references}
 use Rattle.semantic_model.specs.Step.{steps}
-use Rattle.semantic_model.specs.TablesOf.{tables_of, scopes, evals}
+use Rattle.semantic_model.specs.TablesOf.{tables_of, scopes, evals, made_of}
 use Rattle.semantic_model.specs.Tie.{seen_as, symbol_by}
 use Rattle.semantic_model.proofs.fits.Outwards.{bound_as, flags_at, scopes_length, reference_chain}
 use Rattle.semantic_model.proofs.fold.BodyChains.{AllInTable}
@@ -20,7 +20,7 @@ use Rattle.semantic_model.proofs.fold.Changes.{sound_start}
 use Rattle.semantic_model.proofs.fold.Orders.{table_of, orderly_events}
 use Rattle.semantic_model.proofs.form.Shape.{has_form}
 use Rattle.semantic_model.proofs.lists.Members.{among_at}
-use Rattle.binding_laws.specs.SeenDeclarations.{made_of, bound_by_all, bound_before_body, seen_with_flags, bound_in_end, asked_of}
+use Rattle.binding_laws.specs.SeenDeclarations.{bound_by_all, bound_before_body, seen_with_flags, bound_in_end, asked_of}
 use Rattle.binding_laws.proofs.TiedOutward.{ties_are_outward}
 use Rattle.typescript_ties.specs.SeenTogether.{IsPlainlyDeclared, is_in_scope, bound_together, asked_together, AreTiedTogether}
 use Rattle.typescript_ties.proofs.PlainFold.{PlainState, plain_in_end}

@@ -31,7 +31,7 @@ use Rattle.semantic_model.specs.Hoist.{run}
 use Rattle.semantic_model.specs.Place.{Place, OpenScope}
 use Rattle.semantic_model.specs.Reference.{reference_at}
 use Rattle.semantic_model.specs.Step.{Step, entering, opening, header_ending, closing, leaving, steps}
-use Rattle.semantic_model.specs.TablesOf.{tables_of}
+use Rattle.semantic_model.specs.TablesOf.{tables_of, made_of}
 use Rattle.semantic_model.specs.Tie.{seen_as, symbol_by}
 use Rattle.semantic_model.proofs.form.Shape.{has_form}
 use Rattle.semantic_model.proofs.lists.Members.{among_at}
@@ -39,7 +39,7 @@ use Rattle.semantic_model.proofs.once.ListedUnder.{name_tells}
 use Rattle.semantic_model.proofs.once.ReferencesStand.{stand_once}
 use Rattle.program_laws.specs.SymbolNames.{IsNamed}
 use Rattle.program_laws.proofs.TiedNames.{ties_have_names, declarations_have_names}
-use Rattle.binding_laws.specs.SeenDeclarations.{made_of, seen_alone, with_declaration, bound_by_all, is_before_body, stands_before_body}
+use Rattle.binding_laws.specs.SeenDeclarations.{seen_alone, with_declaration, bound_by_all, is_before_body, stands_before_body}
 use Rattle.tangle_model.specs.Mention.{mentions}
 use Rattle.tangle_model.specs.Tangled.{is_inner_alias, may_be_passed, is_merged_member, is_name_of, is_shared, any_symbol, holds_in, all_reasons, tangle_reasons}
 use Rattle.tangle_model.specs.declared.reason.Reason.{Reason}

@@ -11,9 +11,9 @@ use Rattle.semantic_model.specs.Fold.{Made}
 use Rattle.semantic_model.specs.Place.{OpenScope}
 use Rattle.semantic_model.specs.Reference.{Occurrence, references}
 use Rattle.semantic_model.specs.Step.{steps}
-use Rattle.semantic_model.specs.TablesOf.{tables_of}
+use Rattle.semantic_model.specs.TablesOf.{tables_of, made_of}
 use Rattle.semantic_model.specs.Tie.{symbol_by}
-use Rattle.binding_laws.specs.SeenDeclarations.{made_of, is_before_body, bound_by_all}
+use Rattle.binding_laws.specs.SeenDeclarations.{is_before_body, bound_by_all}
 
 -- as `var` doesn't, nor a function that leaves its block, and not by a catch clause
 pub record IsPlainDeclaration (d : Declaration) : Type 0 where
