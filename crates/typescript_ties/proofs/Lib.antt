@@ -25,3 +25,4 @@ pub mod UntangledTies
 pub mod MergedBlocks
 pub mod SharedMembers
 pub mod OwnMembers
+pub mod SimpleByTrial

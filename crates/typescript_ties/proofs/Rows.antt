@@ -2,10 +2,11 @@
 -- TypeScript's checker tells of the program, but for the type parameters of a class and an interface of its name, which are one there.
 use lib.Utf8.{encode}
 use Rattle.std.specs.Str.{chars}
-use Rattle.std.proofs.Common.{◌≡◌, ℕ, List, [], ◌∷◌, map, codes, refl}
+use Rattle.std.proofs.Common.{◌≡◌, ℕ, List, [], ◌∷◌, true, false, map, codes, refl}
 use Rattle.tangle_model.specs.Tangled.{tangle_reasons}
 use Rattle.typescript_ties.specs.Resolved.{Resolved, nowhere, declared_in, ResolvedUse, resolved_uses}
 use Rattle.typescript_ties.specs.ResolvedTies.{parting_uses}
+use Rattle.typescript_ties.specs.TriedNames.{is_simple_name}
 use Rattle.typescript_ties.proofs.Programs.{qualified, merged_namespaces, merged_enums, typed_export, exported_namespace, generics, generic_class, overloads, typed_imports, infers, mapped, queries, ambient, sloppy_blocks, strict_blocks, local_types, equated, index_parameters}
 
 abbrev identifiers_of : Resolved → List ℕ
@@ -236,3 +237,72 @@ sloppy_blocks_f_untangled = refl
 index_parameters_k_untangled : tangle_reasons index_parameters (codes "k") ≡ []
 unfolding encode chars
 index_parameters_k_untangled = refl
+
+-- simple names and others; the first five are not tangled, the last two are as free namesakes
+generic_class_C_simple : is_simple_name generic_class (codes "C") ≡ true
+unfolding encode chars
+generic_class_C_simple = refl
+
+typed_imports_A_simple : is_simple_name typed_imports (codes "A") ≡ true
+unfolding encode chars
+typed_imports_A_simple = refl
+
+local_types_A_simple : is_simple_name local_types (codes "A") ≡ true
+unfolding encode chars
+local_types_A_simple = refl
+
+equated_C_simple : is_simple_name equated (codes "C") ≡ true
+unfolding encode chars
+equated_C_simple = refl
+
+overloads_f_simple : is_simple_name overloads (codes "f") ≡ true
+unfolding encode chars
+overloads_f_simple = refl
+
+strict_blocks_f_simple : is_simple_name strict_blocks (codes "f") ≡ true
+unfolding encode chars
+strict_blocks_f_simple = refl
+
+generics_T_simple : is_simple_name generics (codes "T") ≡ true
+unfolding encode chars
+generics_T_simple = refl
+
+infers_U_not_simple : is_simple_name infers (codes "U") ≡ false
+unfolding encode chars
+infers_U_not_simple = refl
+
+queries_a_not_simple : is_simple_name queries (codes "a") ≡ false
+unfolding encode chars
+queries_a_not_simple = refl
+
+sloppy_blocks_f_not_simple : is_simple_name sloppy_blocks (codes "f") ≡ false
+unfolding encode chars
+sloppy_blocks_f_not_simple = refl
+
+index_parameters_k_not_simple : is_simple_name index_parameters (codes "k") ≡ false
+unfolding encode chars
+index_parameters_k_not_simple = refl
+
+typed_export_A_not_simple : is_simple_name typed_export (codes "A") ≡ false
+unfolding encode chars
+typed_export_A_not_simple = refl
+
+generic_class_C_free_of_reasons : tangle_reasons generic_class (codes "C") ≡ []
+unfolding encode chars
+generic_class_C_free_of_reasons = refl
+
+typed_imports_A_free_of_reasons : tangle_reasons typed_imports (codes "A") ≡ []
+unfolding encode chars
+typed_imports_A_free_of_reasons = refl
+
+local_types_A_free_of_reasons : tangle_reasons local_types (codes "A") ≡ []
+unfolding encode chars
+local_types_A_free_of_reasons = refl
+
+equated_C_free_of_reasons : tangle_reasons equated (codes "C") ≡ []
+unfolding encode chars
+equated_C_free_of_reasons = refl
+
+overloads_f_free_of_reasons : tangle_reasons overloads (codes "f") ≡ []
+unfolding encode chars
+overloads_f_free_of_reasons = refl

@@ -43,7 +43,7 @@ never h = absurd cc
 
 -- ---- a container is itself
 
-kind_self : (k : ContainerKind) → same_container_kind k k ≡ true
+pub kind_self : (k : ContainerKind) → same_container_kind k k ≡ true
 kind_self container.Globals = refl
 kind_self _ = refl
 

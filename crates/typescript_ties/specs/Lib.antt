@@ -7,3 +7,4 @@ pub mod ResolvedTies
 pub mod DeclaredNames
 pub mod SeenTogether
 pub mod SimpleNames
+pub mod TriedNames

@@ -8,6 +8,7 @@ ghost use Rattle.tangle_model.specs.Tangled.{tangle_reasons};
 ghost use Rattle.typescript_ties.specs.DeclaredNames.{NamesAreDeclared, IsUntiedEverywhere, MeansNothing, is_declared_in};
 ghost use Rattle.typescript_ties.specs.ResolvedTies.{parting_uses};
 ghost use Rattle.typescript_ties.specs.SimpleNames.{is_common, IsSimpleName};
+ghost use Rattle.typescript_ties.specs.TriedNames.{is_simple_name};
 ghost use Rattle.typescript_ties.specs.SeenTogether.{IsPlainlyDeclared, AreTiedTogether};
 
 /// At each node of a program the names that the tables are told to declare are those that the language declares, each by its
@@ -32,11 +33,14 @@ pub fn plain_names_are_tied_together()
         → AreTiedTogether p name }
 {}
 
-/// Tables and language agree on each reference of a name that isn't tangled and is declared simply, in a program of TypeScript without
-/// `with` and without decorators of parameters: the reference is tied to the symbol of all declarations that the nearest container
-/// has of the name which has one in a meaning that is asked for, and free exactly where none has.
+/// Tables and language agree on each reference of a name that isn't tangled and is simple, in a program of TypeScript without `with` and
+/// without decorators of parameters: the reference is tied to the symbol of all declarations that the nearest container has of the
+/// name which has one in a meaning that is asked for, and free exactly where none has. Whether a name is simple can be tried.
 pub fn untangled_names_are_tied_as_they_mean()
-    ensures { (p : Tree) (name : Name) → first_fault p ≡ None → is_common p ≡ true
+    ensures agree { (p : Tree) (name : Name) → first_fault p ≡ None → is_common p ≡ true
         → is_typescript p.source_type ≡ true → IsNumbered p.root → tangle_reasons p name ≡ []
         → IsSimpleName p name → parting_uses p name ≡ [] }
+    ensures tried { (p : Tree) (name : Name) → first_fault p ≡ None → is_common p ≡ true
+        → is_typescript p.source_type ≡ true → IsNumbered p.root → tangle_reasons p name ≡ []
+        → is_simple_name p name ≡ true → parting_uses p name ≡ [] }
 {}
