@@ -731,6 +731,39 @@ equated =
     ∷ [])
     ∷ [])
 
+-- `declare module "m" { const A: 1; export type { A as B }; } type A = 2;`
+abbrev pub typed_export_inside : Tree
+typed_export_inside =
+    program goal.Script lang.Ts
+    (marked (mark.Declare ∷ []) role.Body kind.TSExternalModuleDeclaration []
+    (node role.Id kind.StringLiteral (codes "m") []
+    ∷ node role.Body kind.TSModuleBlock []
+    (node role.Body kind.VariableDeclaration (codes "const")
+    (node role.Declarators kind.VariableDeclarator []
+    (node role.Id kind.BindingIdentifier (codes "A") []
+    ∷ node role.Annotation kind.TSTypeAnnotation []
+    (node role.Element kind.TSLiteralType []
+    (marked (mark.Decimal ∷ []) role.Literal kind.NumericLiteral (codes "1") []
+    ∷ [])
+    ∷ [])
+    ∷ [])
+    ∷ [])
+    ∷ marked (mark.TypeOnly ∷ []) role.Body kind.ExportNamedDeclaration []
+    (node role.Specifiers kind.ExportSpecifier []
+    (node role.Local kind.IdentifierReference (codes "A") []
+    ∷ node role.Exported kind.IdentifierName (codes "B") []
+    ∷ [])
+    ∷ [])
+    ∷ [])
+    ∷ [])
+    ∷ node role.Body kind.TSTypeAliasDeclaration []
+    (node role.Id kind.BindingIdentifier (codes "A") []
+    ∷ node role.ValueType kind.TSLiteralType []
+    (marked (mark.Decimal ∷ []) role.Literal kind.NumericLiteral (codes "2") []
+    ∷ [])
+    ∷ [])
+    ∷ [])
+
 -- `export {}; let k = 1; let x: { [k: string]: typeof k };`
 abbrev pub index_parameters : Tree
 index_parameters =

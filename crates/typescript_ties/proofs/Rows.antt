@@ -7,7 +7,7 @@ use Rattle.tangle_model.specs.Tangled.{tangle_reasons}
 use Rattle.typescript_ties.specs.Resolved.{Resolved, nowhere, declared_in, ResolvedUse, resolved_uses}
 use Rattle.typescript_ties.specs.ResolvedTies.{parting_uses}
 use Rattle.typescript_ties.specs.TriedNames.{is_simple_name}
-use Rattle.typescript_ties.proofs.Programs.{qualified, merged_namespaces, merged_enums, typed_export, exported_namespace, generics, generic_class, overloads, typed_imports, infers, mapped, queries, ambient, sloppy_blocks, strict_blocks, local_types, equated, index_parameters}
+use Rattle.typescript_ties.proofs.Programs.{qualified, merged_namespaces, merged_enums, typed_export, exported_namespace, generics, generic_class, overloads, typed_imports, infers, mapped, queries, ambient, sloppy_blocks, strict_blocks, local_types, equated, typed_export_inside, index_parameters}
 
 abbrev identifiers_of : Resolved → List ℕ
 identifiers_of nowhere = []
@@ -213,6 +213,15 @@ equated_D_agrees : parting_uses equated (codes "D") ≡ []
 unfolding encode chars
 equated_D_agrees = refl
 
+-- a value that is exported as a type, before a type around
+typed_export_inside_meant : map meant_identifiers (resolved_uses typed_export_inside) ≡ (12, 6 ∷ []) ∷ []
+unfolding encode chars
+typed_export_inside_meant = refl
+
+typed_export_inside_A_parts : parting_uses typed_export_inside (codes "A") ≡ 12 ∷ []
+unfolding encode chars
+typed_export_inside_A_parts = refl
+
 -- the parameter of an index signature is seen in its type
 index_parameters_meant : map meant_identifiers (resolved_uses index_parameters) ≡ (17, 12 ∷ []) ∷ []
 unfolding encode chars
@@ -233,6 +242,10 @@ queries_a_untangled = refl
 sloppy_blocks_f_untangled : tangle_reasons sloppy_blocks (codes "f") ≡ []
 unfolding encode chars
 sloppy_blocks_f_untangled = refl
+
+typed_export_inside_A_untangled : tangle_reasons typed_export_inside (codes "A") ≡ []
+unfolding encode chars
+typed_export_inside_A_untangled = refl
 
 index_parameters_k_untangled : tangle_reasons index_parameters (codes "k") ≡ []
 unfolding encode chars

@@ -25,9 +25,9 @@ pub fn undeclared_names_are_free()
         → is_declared_in p name ≡ false → IsUntiedEverywhere p name }
 {}
 
-/// Each reference of a name that is declared plainly, by no `var` that passes a scope and by no catch clause, is tied to the symbol of
-/// the first scope outward whose declarations of the name, together, fit its way; of a scope whose header holds it, those outside of
-/// the body. In TypeScript these are `let`, `const`, types, classes, functions, enums, namespaces, imports and parameters.
+/// Each reference of a name that is declared plainly, by no `var`, no function that leaves its block and no catch clause, is tied to the
+/// symbol of the first scope outward whose declarations of the name, together, fit its way; of a scope whose header holds it, those
+/// outside of the body.
 pub fn plain_names_are_tied_together()
     ensures { (p : Tree) (name : Name) → first_fault p ≡ None → IsPlainlyDeclared p name
         → AreTiedTogether p name }
