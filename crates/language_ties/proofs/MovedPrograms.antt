@@ -6,33 +6,23 @@ use Rattle.semantic_syntax.specs.declared.source_type.Goal.TheVariants as goal
 use Rattle.semantic_syntax.specs.declared.source_type.Lang.TheVariants as lang
 use Rattle.semantic_kinds.specs.declared.kind.AstType.TheVariants as kind
 use Rattle.semantic_kinds.specs.declared.role.Role.TheVariants as role
-use Rattle.semantic_kinds.specs.declared.mark.Mark.TheVariants as mark
 use Rattle.semantic_tree.specs.Tree.{Tree}
 use Rattle.tangle_model.specs.Tangled.{tangle_reasons}
 use Rattle.language_ties.specs.Agreement.{differing}
 use Rattle.language_ties.specs.Meaning.{meanings, unbound, bound}
 use Rattle.language_ties.specs.Misplaced.{has_misplaced}
 use Rattle.language_ties.specs.declared.environment_kind.EnvironmentKind.TheVariants.{Block, Body, Global, Parameters}
-use Rattle.tangle_model.proofs.ProgramTrees.{marked, node, program}
+use Rattle.tangle_model.proofs.ProgramTrees.{node, program, block, defaulted, function, mention, number, parameter, reference}
 
 -- `switch (1) { case 1: function f() {} } f`
 abbrev pub in_case : Tree
 in_case =
     program goal.Script lang.Js
     (node role.Body kind.SwitchStatement []
-    (marked (mark.Decimal ∷ []) role.Discriminant kind.NumericLiteral (codes "1") []
-    ∷ node role.Cases kind.SwitchCase []
-    (marked (mark.Decimal ∷ []) role.Test kind.NumericLiteral (codes "1") []
-    ∷ node role.Consequent kind.Function (codes "declaration")
-    (node role.Id kind.BindingIdentifier (codes "f") []
-    ∷ node role.Params kind.FormalParameters (codes "formal") []
-    ∷ node role.Body kind.FunctionBody [] []
+    (number role.Discriminant (codes "1")
+    ∷ node role.Cases kind.SwitchCase [] (number role.Test (codes "1") ∷ function role.Consequent (codes "f") [] [] ∷ [])
     ∷ [])
-    ∷ [])
-    ∷ [])
-    ∷ node role.Body kind.ExpressionStatement []
-    (node role.Expression kind.IdentifierReference (codes "f") []
-    ∷ [])
+    ∷ mention (codes "f")
     ∷ [])
 
 in_case_meant : meanings in_case ≡ record { node = 10; meaning = bound (record { kind = Global; maker = 0 }) (6 ∷ []) } ∷ []
@@ -55,24 +45,8 @@ in_case_f_agrees = refl
 abbrev pub in_two_blocks : Tree
 in_two_blocks =
     program goal.Script lang.Js
-    (node role.Body kind.BlockStatement []
-    (node role.Body kind.BlockStatement []
-    (node role.Body kind.Function (codes "declaration")
-    (node role.Id kind.BindingIdentifier (codes "f") []
-    ∷ node role.Params kind.FormalParameters (codes "formal") []
-    ∷ node role.Body kind.FunctionBody [] []
-    ∷ [])
-    ∷ node role.Body kind.ExpressionStatement []
-    (node role.Expression kind.IdentifierReference (codes "f") []
-    ∷ [])
-    ∷ [])
-    ∷ node role.Body kind.ExpressionStatement []
-    (node role.Expression kind.IdentifierReference (codes "f") []
-    ∷ [])
-    ∷ [])
-    ∷ node role.Body kind.ExpressionStatement []
-    (node role.Expression kind.IdentifierReference (codes "f") []
-    ∷ [])
+    (block role.Body (block role.Body (function role.Body (codes "f") [] [] ∷ mention (codes "f") ∷ []) ∷ mention (codes "f") ∷ [])
+    ∷ mention (codes "f")
     ∷ [])
 
 -- the block between has no function, and means that of the script
@@ -88,27 +62,9 @@ in_two_blocks_f_agrees = refl
 abbrev pub past_header : Tree
 past_header =
     program goal.Script lang.Js
-    (node role.Body kind.Function (codes "declaration")
-    (node role.Id kind.BindingIdentifier (codes "g") []
-    ∷ node role.Params kind.FormalParameters (codes "formal")
-    (node role.Items kind.FormalParameter []
-    (node role.Pattern kind.BindingIdentifier (codes "a") []
-    ∷ node role.Initializer kind.IdentifierReference (codes "f") []
-    ∷ [])
-    ∷ [])
-    ∷ node role.Body kind.FunctionBody []
-    (node role.Body kind.BlockStatement []
-    (node role.Body kind.Function (codes "declaration")
-    (node role.Id kind.BindingIdentifier (codes "f") []
-    ∷ node role.Params kind.FormalParameters (codes "formal") []
-    ∷ node role.Body kind.FunctionBody [] []
-    ∷ [])
-    ∷ [])
-    ∷ node role.Body kind.ExpressionStatement []
-    (node role.Expression kind.IdentifierReference (codes "f") []
-    ∷ [])
-    ∷ [])
-    ∷ [])
+    (function role.Body (codes "g")
+    (defaulted (codes "a") (reference role.Initializer (codes "f")) ∷ [])
+    (block role.Body (function role.Body (codes "f") [] [] ∷ []) ∷ mention (codes "f") ∷ [])
     ∷ [])
 
 -- the variable is the body's, which the header doesn't see
@@ -128,30 +84,10 @@ past_header_f_agrees = refl
 abbrev pub if_in_function : Tree
 if_in_function =
     program goal.Script lang.Js
-    (node role.Body kind.Function (codes "declaration")
-    (node role.Id kind.BindingIdentifier (codes "g") []
-    ∷ node role.Params kind.FormalParameters (codes "formal")
-    (node role.Items kind.FormalParameter []
-    (node role.Pattern kind.BindingIdentifier (codes "a") []
-    ∷ [])
-    ∷ node role.Items kind.FormalParameter []
-    (node role.Pattern kind.BindingIdentifier (codes "b") []
-    ∷ marked (mark.Decimal ∷ []) role.Initializer kind.NumericLiteral (codes "1") []
-    ∷ [])
-    ∷ [])
-    ∷ node role.Body kind.FunctionBody []
-    (node role.Body kind.IfStatement []
-    (node role.Test kind.IdentifierReference (codes "a") []
-    ∷ node role.Consequent kind.Function (codes "declaration")
-    (node role.Id kind.BindingIdentifier (codes "f") []
-    ∷ node role.Params kind.FormalParameters (codes "formal") []
-    ∷ node role.Body kind.FunctionBody [] []
-    ∷ [])
-    ∷ [])
-    ∷ node role.Body kind.ExpressionStatement []
-    (node role.Expression kind.IdentifierReference (codes "f") []
-    ∷ [])
-    ∷ [])
+    (function role.Body (codes "g")
+    (parameter (codes "a") ∷ defaulted (codes "b") (number role.Initializer (codes "1")) ∷ [])
+    (node role.Body kind.IfStatement [] (reference role.Test (codes "a") ∷ function role.Consequent (codes "f") [] [] ∷ [])
+    ∷ mention (codes "f")
     ∷ [])
     ∷ [])
 

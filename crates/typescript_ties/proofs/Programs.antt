@@ -6,35 +6,22 @@ use Rattle.semantic_kinds.specs.declared.kind.AstType.TheVariants as kind
 use Rattle.semantic_kinds.specs.declared.role.Role.TheVariants as role
 use Rattle.semantic_kinds.specs.declared.mark.Mark.TheVariants as mark
 use Rattle.semantic_tree.specs.Tree.{Tree}
-use Rattle.tangle_model.proofs.ProgramTrees.{marked, node, program}
+use Rattle.tangle_model.proofs.ProgramTrees.{marked, node, program, binding, block, declared, function, function_body, mention, namespace, number, parameters, reference}
 
 -- `export {}; namespace N { export type T = number } let x: N.T;`
 abbrev pub qualified : Tree
 qualified =
     program goal.Module lang.Ts
     (node role.Body kind.ExportNamedDeclaration [] []
-    ∷ node role.Body kind.TSNamespaceDeclaration []
-    (node role.Id kind.BindingIdentifier (codes "N") []
-    ∷ node role.Body kind.TSModuleBlock []
+    ∷ namespace role.Body (codes "N")
     (node role.Body kind.ExportDeclaration []
-    (node role.Declaration kind.TSTypeAliasDeclaration []
-    (node role.Id kind.BindingIdentifier (codes "T") []
-    ∷ node role.ValueType kind.TSNumberKeyword [] []
+    (node role.Declaration kind.TSTypeAliasDeclaration [] (binding role.Id (codes "T") ∷ node role.ValueType kind.TSNumberKeyword [] [] ∷ []) ∷ [])
     ∷ [])
-    ∷ [])
-    ∷ [])
-    ∷ [])
-    ∷ node role.Body kind.VariableDeclaration (codes "let")
-    (node role.Declarators kind.VariableDeclarator []
-    (node role.Id kind.BindingIdentifier (codes "x") []
+    ∷ declared role.Body (codes "let")
+    (binding role.Id (codes "x")
     ∷ node role.Annotation kind.TSTypeAnnotation []
     (node role.Element kind.TSTypeReference []
-    (node role.Name kind.TSQualifiedName []
-    (node role.Left kind.IdentifierReference (codes "N") []
-    ∷ node role.Right kind.IdentifierName (codes "T") []
-    ∷ [])
-    ∷ [])
-    ∷ [])
+    (node role.Name kind.TSQualifiedName [] (reference role.Left (codes "N") ∷ node role.Right kind.IdentifierName (codes "T") [] ∷ []) ∷ [])
     ∷ [])
     ∷ [])
     ∷ [])
@@ -44,36 +31,12 @@ abbrev pub merged_namespaces : Tree
 merged_namespaces =
     program goal.Module lang.Ts
     (node role.Body kind.ExportNamedDeclaration [] []
-    ∷ node role.Body kind.TSNamespaceDeclaration []
-    (node role.Id kind.BindingIdentifier (codes "M") []
-    ∷ node role.Body kind.TSModuleBlock []
+    ∷ namespace role.Body (codes "M")
     (node role.Body kind.ExportDeclaration []
-    (node role.Declaration kind.VariableDeclaration (codes "const")
-    (node role.Declarators kind.VariableDeclarator []
-    (node role.Id kind.BindingIdentifier (codes "x") []
-    ∷ marked (mark.Decimal ∷ []) role.Init kind.NumericLiteral (codes "1") []
+    (declared role.Declaration (codes "const") (binding role.Id (codes "x") ∷ number role.Init (codes "1") ∷ []) ∷ [])
+    ∷ declared role.Body (codes "const") (binding role.Id (codes "y") ∷ number role.Init (codes "2") ∷ [])
     ∷ [])
-    ∷ [])
-    ∷ [])
-    ∷ node role.Body kind.VariableDeclaration (codes "const")
-    (node role.Declarators kind.VariableDeclarator []
-    (node role.Id kind.BindingIdentifier (codes "y") []
-    ∷ marked (mark.Decimal ∷ []) role.Init kind.NumericLiteral (codes "2") []
-    ∷ [])
-    ∷ [])
-    ∷ [])
-    ∷ [])
-    ∷ node role.Body kind.TSNamespaceDeclaration []
-    (node role.Id kind.BindingIdentifier (codes "M") []
-    ∷ node role.Body kind.TSModuleBlock []
-    (node role.Body kind.ExpressionStatement []
-    (node role.Expression kind.IdentifierReference (codes "x") []
-    ∷ [])
-    ∷ node role.Body kind.ExpressionStatement []
-    (node role.Expression kind.IdentifierReference (codes "y") []
-    ∷ [])
-    ∷ [])
-    ∷ [])
+    ∷ namespace role.Body (codes "M") (mention (codes "x") ∷ mention (codes "y") ∷ [])
     ∷ [])
 
 -- `export {}; enum E { a = 1 } enum E { b = a } namespace E { a; }`
@@ -82,48 +45,25 @@ merged_enums =
     program goal.Module lang.Ts
     (node role.Body kind.ExportNamedDeclaration [] []
     ∷ node role.Body kind.TSEnumDeclaration []
-    (node role.Id kind.BindingIdentifier (codes "E") []
+    (binding role.Id (codes "E")
     ∷ node role.Body kind.TSEnumBody []
-    (node role.Members kind.TSEnumMember []
-    (node role.Id kind.IdentifierName (codes "a") []
-    ∷ marked (mark.Decimal ∷ []) role.Initializer kind.NumericLiteral (codes "1") []
-    ∷ [])
-    ∷ [])
+    (node role.Members kind.TSEnumMember [] (node role.Id kind.IdentifierName (codes "a") [] ∷ number role.Initializer (codes "1") ∷ []) ∷ [])
     ∷ [])
     ∷ node role.Body kind.TSEnumDeclaration []
-    (node role.Id kind.BindingIdentifier (codes "E") []
+    (binding role.Id (codes "E")
     ∷ node role.Body kind.TSEnumBody []
-    (node role.Members kind.TSEnumMember []
-    (node role.Id kind.IdentifierName (codes "b") []
-    ∷ node role.Initializer kind.IdentifierReference (codes "a") []
+    (node role.Members kind.TSEnumMember [] (node role.Id kind.IdentifierName (codes "b") [] ∷ reference role.Initializer (codes "a") ∷ []) ∷ [])
     ∷ [])
-    ∷ [])
-    ∷ [])
-    ∷ node role.Body kind.TSNamespaceDeclaration []
-    (node role.Id kind.BindingIdentifier (codes "E") []
-    ∷ node role.Body kind.TSModuleBlock []
-    (node role.Body kind.ExpressionStatement []
-    (node role.Expression kind.IdentifierReference (codes "a") []
-    ∷ [])
-    ∷ [])
-    ∷ [])
+    ∷ namespace role.Body (codes "E") (mention (codes "a") ∷ [])
     ∷ [])
 
 -- `const A = 1; export type { A as B };`
 abbrev pub typed_export : Tree
 typed_export =
     program goal.Module lang.Ts
-    (node role.Body kind.VariableDeclaration (codes "const")
-    (node role.Declarators kind.VariableDeclarator []
-    (node role.Id kind.BindingIdentifier (codes "A") []
-    ∷ marked (mark.Decimal ∷ []) role.Init kind.NumericLiteral (codes "1") []
-    ∷ [])
-    ∷ [])
+    (declared role.Body (codes "const") (binding role.Id (codes "A") ∷ number role.Init (codes "1") ∷ [])
     ∷ marked (mark.TypeOnly ∷ []) role.Body kind.ExportNamedDeclaration []
-    (node role.Specifiers kind.ExportSpecifier []
-    (node role.Local kind.IdentifierReference (codes "A") []
-    ∷ node role.Exported kind.IdentifierName (codes "B") []
-    ∷ [])
+    (node role.Specifiers kind.ExportSpecifier [] (reference role.Local (codes "A") ∷ node role.Exported kind.IdentifierName (codes "B") [] ∷ [])
     ∷ [])
     ∷ [])
 
@@ -131,22 +71,12 @@ typed_export =
 abbrev pub exported_namespace : Tree
 exported_namespace =
     program goal.Module lang.Ts
-    (node role.Body kind.TSNamespaceDeclaration []
-    (node role.Id kind.BindingIdentifier (codes "N") []
-    ∷ node role.Body kind.TSModuleBlock []
+    (namespace role.Body (codes "N")
     (node role.Body kind.TSTypeAliasDeclaration []
-    (node role.Id kind.BindingIdentifier (codes "T") []
-    ∷ node role.ValueType kind.TSLiteralType []
-    (marked (mark.Decimal ∷ []) role.Literal kind.NumericLiteral (codes "1") []
-    ∷ [])
-    ∷ [])
-    ∷ [])
+    (binding role.Id (codes "T") ∷ node role.ValueType kind.TSLiteralType [] (number role.Literal (codes "1") ∷ []) ∷ [])
     ∷ [])
     ∷ node role.Body kind.ExportNamedDeclaration []
-    (node role.Specifiers kind.ExportSpecifier []
-    (node role.Local kind.IdentifierReference (codes "N") []
-    ∷ node role.Exported kind.IdentifierName (codes "N") []
-    ∷ [])
+    (node role.Specifiers kind.ExportSpecifier [] (reference role.Local (codes "N") ∷ node role.Exported kind.IdentifierName (codes "N") [] ∷ [])
     ∷ [])
     ∷ [])
 
@@ -156,41 +86,21 @@ generics =
     program goal.Module lang.Ts
     (node role.Body kind.ExportNamedDeclaration [] []
     ∷ node role.Body kind.Function (codes "declaration")
-    (node role.Id kind.BindingIdentifier (codes "f") []
-    ∷ node role.TypeParameters kind.TSTypeParameterDeclaration []
-    (node role.Params kind.TSTypeParameter []
-    (node role.Name kind.BindingIdentifier (codes "T") []
-    ∷ [])
-    ∷ [])
-    ∷ node role.Params kind.FormalParameters (codes "formal")
+    (binding role.Id (codes "f")
+    ∷ node role.TypeParameters kind.TSTypeParameterDeclaration [] (node role.Params kind.TSTypeParameter [] (binding role.Name (codes "T") ∷ []) ∷ [])
+    ∷ parameters
     (node role.Items kind.FormalParameter []
-    (node role.Pattern kind.BindingIdentifier (codes "a") []
-    ∷ node role.Annotation kind.TSTypeAnnotation []
-    (node role.Element kind.TSTypeReference []
-    (node role.Name kind.IdentifierReference (codes "T") []
+    (binding role.Pattern (codes "a")
+    ∷ node role.Annotation kind.TSTypeAnnotation [] (node role.Element kind.TSTypeReference [] (reference role.Name (codes "T") ∷ []) ∷ [])
     ∷ [])
     ∷ [])
+    ∷ node role.ReturnType kind.TSTypeAnnotation [] (node role.Element kind.TSTypeReference [] (reference role.Name (codes "T") ∷ []) ∷ [])
+    ∷ function_body
+    (declared role.Body (codes "let")
+    (binding role.Id (codes "b")
+    ∷ node role.Annotation kind.TSTypeAnnotation [] (node role.Element kind.TSTypeReference [] (reference role.Name (codes "T") ∷ []) ∷ [])
     ∷ [])
-    ∷ [])
-    ∷ node role.ReturnType kind.TSTypeAnnotation []
-    (node role.Element kind.TSTypeReference []
-    (node role.Name kind.IdentifierReference (codes "T") []
-    ∷ [])
-    ∷ [])
-    ∷ node role.Body kind.FunctionBody []
-    (node role.Body kind.VariableDeclaration (codes "let")
-    (node role.Declarators kind.VariableDeclarator []
-    (node role.Id kind.BindingIdentifier (codes "b") []
-    ∷ node role.Annotation kind.TSTypeAnnotation []
-    (node role.Element kind.TSTypeReference []
-    (node role.Name kind.IdentifierReference (codes "T") []
-    ∷ [])
-    ∷ [])
-    ∷ [])
-    ∷ [])
-    ∷ node role.Body kind.ExpressionStatement []
-    (node role.Expression kind.IdentifierReference (codes "T") []
-    ∷ [])
+    ∷ mention (codes "T")
     ∷ [])
     ∷ [])
     ∷ [])
@@ -201,58 +111,37 @@ generic_class =
     program goal.Module lang.Ts
     (node role.Body kind.ExportNamedDeclaration [] []
     ∷ node role.Body kind.Class (codes "declaration")
-    (node role.Id kind.BindingIdentifier (codes "C") []
-    ∷ node role.TypeParameters kind.TSTypeParameterDeclaration []
-    (node role.Params kind.TSTypeParameter []
-    (node role.Name kind.BindingIdentifier (codes "T") []
-    ∷ [])
-    ∷ [])
+    (binding role.Id (codes "C")
+    ∷ node role.TypeParameters kind.TSTypeParameterDeclaration [] (node role.Params kind.TSTypeParameter [] (binding role.Name (codes "T") ∷ []) ∷ [])
     ∷ node role.Body kind.ClassBody []
     (node role.Body kind.PropertyDefinition []
     (node role.Key kind.IdentifierName (codes "a") []
-    ∷ node role.Annotation kind.TSTypeAnnotation []
-    (node role.Element kind.TSTypeReference []
-    (node role.Name kind.IdentifierReference (codes "T") []
-    ∷ [])
-    ∷ [])
+    ∷ node role.Annotation kind.TSTypeAnnotation [] (node role.Element kind.TSTypeReference [] (reference role.Name (codes "T") ∷ []) ∷ [])
     ∷ [])
     ∷ marked (mark.Static ∷ []) role.Body kind.PropertyDefinition []
     (node role.Key kind.IdentifierName (codes "b") []
     ∷ node role.Annotation kind.TSTypeAnnotation []
     (node role.Element kind.TSTypeReference []
-    (node role.Name kind.IdentifierReference (codes "C") []
-    ∷ node role.TypeArguments kind.TSTypeParameterInstantiation []
-    (node role.Params kind.TSLiteralType []
-    (marked (mark.Decimal ∷ []) role.Literal kind.NumericLiteral (codes "1") []
+    (reference role.Name (codes "C")
+    ∷ node role.TypeArguments kind.TSTypeParameterInstantiation [] (node role.Params kind.TSLiteralType [] (number role.Literal (codes "1") ∷ []) ∷ [])
     ∷ [])
     ∷ [])
     ∷ [])
     ∷ [])
     ∷ [])
-    ∷ [])
-    ∷ [])
-    ∷ node role.Body kind.VariableDeclaration (codes "let")
-    (node role.Declarators kind.VariableDeclarator []
-    (node role.Id kind.BindingIdentifier (codes "D") []
+    ∷ declared role.Body (codes "let")
+    (binding role.Id (codes "D")
     ∷ node role.Init kind.Class (codes "expression")
-    (node role.Id kind.BindingIdentifier (codes "E") []
-    ∷ node role.TypeParameters kind.TSTypeParameterDeclaration []
-    (node role.Params kind.TSTypeParameter []
-    (node role.Name kind.BindingIdentifier (codes "T") []
-    ∷ [])
-    ∷ [])
+    (binding role.Id (codes "E")
+    ∷ node role.TypeParameters kind.TSTypeParameterDeclaration [] (node role.Params kind.TSTypeParameter [] (binding role.Name (codes "T") ∷ []) ∷ [])
     ∷ node role.Body kind.ClassBody []
     (node role.Body kind.PropertyDefinition []
     (node role.Key kind.IdentifierName (codes "a") []
     ∷ node role.Annotation kind.TSTypeAnnotation []
     (node role.Element kind.TSTypeReference []
-    (node role.Name kind.IdentifierReference (codes "E") []
+    (reference role.Name (codes "E")
     ∷ node role.TypeArguments kind.TSTypeParameterInstantiation []
-    (node role.Params kind.TSTypeReference []
-    (node role.Name kind.IdentifierReference (codes "T") []
-    ∷ [])
-    ∷ [])
-    ∷ [])
+    (node role.Params kind.TSTypeReference [] (reference role.Name (codes "T") ∷ []) ∷ [])
     ∷ [])
     ∷ [])
     ∷ [])
@@ -260,20 +149,12 @@ generic_class =
     ∷ [])
     ∷ [])
     ∷ node role.Body kind.TSInterfaceDeclaration []
-    (node role.Id kind.BindingIdentifier (codes "C") []
-    ∷ node role.TypeParameters kind.TSTypeParameterDeclaration []
-    (node role.Params kind.TSTypeParameter []
-    (node role.Name kind.BindingIdentifier (codes "T") []
-    ∷ [])
-    ∷ [])
+    (binding role.Id (codes "C")
+    ∷ node role.TypeParameters kind.TSTypeParameterDeclaration [] (node role.Params kind.TSTypeParameter [] (binding role.Name (codes "T") ∷ []) ∷ [])
     ∷ node role.Body kind.TSInterfaceBody []
     (node role.Body kind.TSPropertySignature []
     (node role.Key kind.IdentifierName (codes "c") []
-    ∷ node role.Annotation kind.TSTypeAnnotation []
-    (node role.Element kind.TSTypeReference []
-    (node role.Name kind.IdentifierReference (codes "T") []
-    ∷ [])
-    ∷ [])
+    ∷ node role.Annotation kind.TSTypeAnnotation [] (node role.Element kind.TSTypeReference [] (reference role.Name (codes "T") ∷ []) ∷ [])
     ∷ [])
     ∷ [])
     ∷ [])
@@ -285,41 +166,22 @@ overloads =
     program goal.Module lang.Ts
     (node role.Body kind.ExportNamedDeclaration [] []
     ∷ node role.Body kind.Function (codes "ts-declare")
-    (node role.Id kind.BindingIdentifier (codes "f") []
-    ∷ node role.Params kind.FormalParameters (codes "formal")
+    (binding role.Id (codes "f")
+    ∷ parameters
     (node role.Items kind.FormalParameter []
-    (node role.Pattern kind.BindingIdentifier (codes "a") []
-    ∷ node role.Annotation kind.TSTypeAnnotation []
-    (node role.Element kind.TSLiteralType []
-    (marked (mark.Decimal ∷ []) role.Literal kind.NumericLiteral (codes "1") []
+    (binding role.Pattern (codes "a")
+    ∷ node role.Annotation kind.TSTypeAnnotation [] (node role.Element kind.TSLiteralType [] (number role.Literal (codes "1") ∷ []) ∷ [])
     ∷ [])
     ∷ [])
+    ∷ node role.ReturnType kind.TSTypeAnnotation [] (node role.Element kind.TSLiteralType [] (number role.Literal (codes "1") ∷ []) ∷ [])
     ∷ [])
-    ∷ [])
-    ∷ node role.ReturnType kind.TSTypeAnnotation []
-    (node role.Element kind.TSLiteralType []
-    (marked (mark.Decimal ∷ []) role.Literal kind.NumericLiteral (codes "1") []
-    ∷ [])
-    ∷ [])
-    ∷ [])
-    ∷ node role.Body kind.Function (codes "declaration")
-    (node role.Id kind.BindingIdentifier (codes "f") []
-    ∷ node role.Params kind.FormalParameters (codes "formal")
+    ∷ function role.Body (codes "f")
     (node role.Items kind.FormalParameter []
-    (node role.Pattern kind.BindingIdentifier (codes "a") []
-    ∷ node role.Annotation kind.TSTypeAnnotation []
-    (node role.Element kind.TSLiteralType []
-    (marked (mark.Decimal ∷ []) role.Literal kind.NumericLiteral (codes "2") []
+    (binding role.Pattern (codes "a")
+    ∷ node role.Annotation kind.TSTypeAnnotation [] (node role.Element kind.TSLiteralType [] (number role.Literal (codes "2") ∷ []) ∷ [])
     ∷ [])
     ∷ [])
-    ∷ [])
-    ∷ [])
-    ∷ node role.Body kind.FunctionBody []
-    (node role.Body kind.ExpressionStatement []
-    (node role.Expression kind.IdentifierReference (codes "f") []
-    ∷ [])
-    ∷ [])
-    ∷ [])
+    (mention (codes "f") ∷ [])
     ∷ [])
 
 -- `import { A, type B } from "m"; import type C from "n"; let a: A; let b: B.b; let c: typeof C; A;`
@@ -327,58 +189,31 @@ abbrev pub typed_imports : Tree
 typed_imports =
     program goal.Module lang.Ts
     (node role.Body kind.ImportDeclaration []
-    (node role.Specifiers kind.ImportSpecifier []
-    (node role.Imported kind.IdentifierName (codes "A") []
-    ∷ node role.Local kind.BindingIdentifier (codes "A") []
-    ∷ [])
+    (node role.Specifiers kind.ImportSpecifier [] (node role.Imported kind.IdentifierName (codes "A") [] ∷ binding role.Local (codes "A") ∷ [])
     ∷ marked (mark.TypeOnly ∷ []) role.Specifiers kind.ImportSpecifier []
-    (node role.Imported kind.IdentifierName (codes "B") []
-    ∷ node role.Local kind.BindingIdentifier (codes "B") []
-    ∷ [])
+    (node role.Imported kind.IdentifierName (codes "B") [] ∷ binding role.Local (codes "B") ∷ [])
     ∷ node role.Source kind.StringLiteral (codes "m") []
     ∷ [])
     ∷ marked (mark.TypeOnly ∷ []) role.Body kind.ImportDeclaration []
-    (node role.Specifiers kind.ImportDefaultSpecifier []
-    (node role.Local kind.BindingIdentifier (codes "C") []
-    ∷ [])
+    (node role.Specifiers kind.ImportDefaultSpecifier [] (binding role.Local (codes "C") ∷ [])
     ∷ node role.Source kind.StringLiteral (codes "n") []
     ∷ [])
-    ∷ node role.Body kind.VariableDeclaration (codes "let")
-    (node role.Declarators kind.VariableDeclarator []
-    (node role.Id kind.BindingIdentifier (codes "a") []
+    ∷ declared role.Body (codes "let")
+    (binding role.Id (codes "a")
+    ∷ node role.Annotation kind.TSTypeAnnotation [] (node role.Element kind.TSTypeReference [] (reference role.Name (codes "A") ∷ []) ∷ [])
+    ∷ [])
+    ∷ declared role.Body (codes "let")
+    (binding role.Id (codes "b")
     ∷ node role.Annotation kind.TSTypeAnnotation []
     (node role.Element kind.TSTypeReference []
-    (node role.Name kind.IdentifierReference (codes "A") []
+    (node role.Name kind.TSQualifiedName [] (reference role.Left (codes "B") ∷ node role.Right kind.IdentifierName (codes "b") [] ∷ []) ∷ [])
     ∷ [])
     ∷ [])
+    ∷ declared role.Body (codes "let")
+    (binding role.Id (codes "c")
+    ∷ node role.Annotation kind.TSTypeAnnotation [] (node role.Element kind.TSTypeQuery [] (reference role.Name (codes "C") ∷ []) ∷ [])
     ∷ [])
-    ∷ [])
-    ∷ node role.Body kind.VariableDeclaration (codes "let")
-    (node role.Declarators kind.VariableDeclarator []
-    (node role.Id kind.BindingIdentifier (codes "b") []
-    ∷ node role.Annotation kind.TSTypeAnnotation []
-    (node role.Element kind.TSTypeReference []
-    (node role.Name kind.TSQualifiedName []
-    (node role.Left kind.IdentifierReference (codes "B") []
-    ∷ node role.Right kind.IdentifierName (codes "b") []
-    ∷ [])
-    ∷ [])
-    ∷ [])
-    ∷ [])
-    ∷ [])
-    ∷ node role.Body kind.VariableDeclaration (codes "let")
-    (node role.Declarators kind.VariableDeclarator []
-    (node role.Id kind.BindingIdentifier (codes "c") []
-    ∷ node role.Annotation kind.TSTypeAnnotation []
-    (node role.Element kind.TSTypeQuery []
-    (node role.Name kind.IdentifierReference (codes "C") []
-    ∷ [])
-    ∷ [])
-    ∷ [])
-    ∷ [])
-    ∷ node role.Body kind.ExpressionStatement []
-    (node role.Expression kind.IdentifierReference (codes "A") []
-    ∷ [])
+    ∷ mention (codes "A")
     ∷ [])
 
 -- `export {}; type U = 1; type X<T> = T extends [infer U, U] ? U : U;`
@@ -387,38 +222,18 @@ infers =
     program goal.Module lang.Ts
     (node role.Body kind.ExportNamedDeclaration [] []
     ∷ node role.Body kind.TSTypeAliasDeclaration []
-    (node role.Id kind.BindingIdentifier (codes "U") []
-    ∷ node role.ValueType kind.TSLiteralType []
-    (marked (mark.Decimal ∷ []) role.Literal kind.NumericLiteral (codes "1") []
-    ∷ [])
-    ∷ [])
+    (binding role.Id (codes "U") ∷ node role.ValueType kind.TSLiteralType [] (number role.Literal (codes "1") ∷ []) ∷ [])
     ∷ node role.Body kind.TSTypeAliasDeclaration []
-    (node role.Id kind.BindingIdentifier (codes "X") []
-    ∷ node role.TypeParameters kind.TSTypeParameterDeclaration []
-    (node role.Params kind.TSTypeParameter []
-    (node role.Name kind.BindingIdentifier (codes "T") []
-    ∷ [])
-    ∷ [])
+    (binding role.Id (codes "X")
+    ∷ node role.TypeParameters kind.TSTypeParameterDeclaration [] (node role.Params kind.TSTypeParameter [] (binding role.Name (codes "T") ∷ []) ∷ [])
     ∷ node role.ValueType kind.TSConditionalType []
-    (node role.Check kind.TSTypeReference []
-    (node role.Name kind.IdentifierReference (codes "T") []
-    ∷ [])
+    (node role.Check kind.TSTypeReference [] (reference role.Name (codes "T") ∷ [])
     ∷ node role.Extends kind.TSTupleType []
-    (node role.Elements kind.TSInferType []
-    (node role.Parameter kind.TSTypeParameter []
-    (node role.Name kind.BindingIdentifier (codes "U") []
+    (node role.Elements kind.TSInferType [] (node role.Parameter kind.TSTypeParameter [] (binding role.Name (codes "U") ∷ []) ∷ [])
+    ∷ node role.Elements kind.TSTypeReference [] (reference role.Name (codes "U") ∷ [])
     ∷ [])
-    ∷ [])
-    ∷ node role.Elements kind.TSTypeReference []
-    (node role.Name kind.IdentifierReference (codes "U") []
-    ∷ [])
-    ∷ [])
-    ∷ node role.True kind.TSTypeReference []
-    (node role.Name kind.IdentifierReference (codes "U") []
-    ∷ [])
-    ∷ node role.False kind.TSTypeReference []
-    (node role.Name kind.IdentifierReference (codes "U") []
-    ∷ [])
+    ∷ node role.True kind.TSTypeReference [] (reference role.Name (codes "U") ∷ [])
+    ∷ node role.False kind.TSTypeReference [] (reference role.Name (codes "U") ∷ [])
     ∷ [])
     ∷ [])
     ∷ [])
@@ -429,29 +244,15 @@ mapped =
     program goal.Module lang.Ts
     (node role.Body kind.ExportNamedDeclaration [] []
     ∷ node role.Body kind.TSTypeAliasDeclaration []
-    (node role.Id kind.BindingIdentifier (codes "X") []
-    ∷ node role.TypeParameters kind.TSTypeParameterDeclaration []
-    (node role.Params kind.TSTypeParameter []
-    (node role.Name kind.BindingIdentifier (codes "T") []
-    ∷ [])
-    ∷ [])
+    (binding role.Id (codes "X")
+    ∷ node role.TypeParameters kind.TSTypeParameterDeclaration [] (node role.Params kind.TSTypeParameter [] (binding role.Name (codes "T") ∷ []) ∷ [])
     ∷ node role.ValueType kind.TSMappedType []
-    (node role.Key kind.BindingIdentifier (codes "k") []
-    ∷ node role.Constraint kind.TSTypeOperator (codes "keyof")
-    (node role.Element kind.TSTypeReference []
-    (node role.Name kind.IdentifierReference (codes "T") []
-    ∷ [])
-    ∷ [])
-    ∷ node role.NameType kind.TSTypeReference []
-    (node role.Name kind.IdentifierReference (codes "k") []
-    ∷ [])
+    (binding role.Key (codes "k")
+    ∷ node role.Constraint kind.TSTypeOperator (codes "keyof") (node role.Element kind.TSTypeReference [] (reference role.Name (codes "T") ∷ []) ∷ [])
+    ∷ node role.NameType kind.TSTypeReference [] (reference role.Name (codes "k") ∷ [])
     ∷ node role.ValueType kind.TSIndexedAccessType []
-    (node role.Object kind.TSTypeReference []
-    (node role.Name kind.IdentifierReference (codes "T") []
-    ∷ [])
-    ∷ node role.Index kind.TSTypeReference []
-    (node role.Name kind.IdentifierReference (codes "k") []
-    ∷ [])
+    (node role.Object kind.TSTypeReference [] (reference role.Name (codes "T") ∷ [])
+    ∷ node role.Index kind.TSTypeReference [] (reference role.Name (codes "k") ∷ [])
     ∷ [])
     ∷ [])
     ∷ [])
@@ -462,48 +263,23 @@ abbrev pub queries : Tree
 queries =
     program goal.Module lang.Ts
     (node role.Body kind.ExportNamedDeclaration [] []
-    ∷ node role.Body kind.VariableDeclaration (codes "let")
-    (node role.Declarators kind.VariableDeclarator []
-    (node role.Id kind.BindingIdentifier (codes "a") []
-    ∷ marked (mark.Decimal ∷ []) role.Init kind.NumericLiteral (codes "1") []
-    ∷ [])
-    ∷ [])
+    ∷ declared role.Body (codes "let") (binding role.Id (codes "a") ∷ number role.Init (codes "1") ∷ [])
     ∷ node role.Body kind.TSTypeAliasDeclaration []
-    (node role.Id kind.BindingIdentifier (codes "T") []
-    ∷ node role.ValueType kind.TSTypeQuery []
-    (node role.Name kind.IdentifierReference (codes "a") []
-    ∷ [])
-    ∷ [])
+    (binding role.Id (codes "T") ∷ node role.ValueType kind.TSTypeQuery [] (reference role.Name (codes "a") ∷ []) ∷ [])
     ∷ node role.Body kind.Function (codes "declaration")
-    (node role.Id kind.BindingIdentifier (codes "f") []
+    (binding role.Id (codes "f")
     ∷ node role.TypeParameters kind.TSTypeParameterDeclaration []
     (node role.Params kind.TSTypeParameter []
-    (node role.Name kind.BindingIdentifier (codes "T") []
-    ∷ node role.Constraint kind.TSTypeQuery []
-    (node role.Name kind.IdentifierReference (codes "a") []
+    (binding role.Name (codes "T") ∷ node role.Constraint kind.TSTypeQuery [] (reference role.Name (codes "a") ∷ []) ∷ [])
     ∷ [])
-    ∷ [])
-    ∷ [])
-    ∷ node role.Params kind.FormalParameters (codes "formal")
+    ∷ parameters
     (node role.Items kind.FormalParameter []
-    (node role.Pattern kind.BindingIdentifier (codes "a") []
-    ∷ node role.Annotation kind.TSTypeAnnotation []
-    (node role.Element kind.TSTypeReference []
-    (node role.Name kind.IdentifierReference (codes "T") []
+    (binding role.Pattern (codes "a")
+    ∷ node role.Annotation kind.TSTypeAnnotation [] (node role.Element kind.TSTypeReference [] (reference role.Name (codes "T") ∷ []) ∷ [])
     ∷ [])
     ∷ [])
-    ∷ [])
-    ∷ [])
-    ∷ node role.ReturnType kind.TSTypeAnnotation []
-    (node role.Element kind.TSTypeQuery []
-    (node role.Name kind.IdentifierReference (codes "a") []
-    ∷ [])
-    ∷ [])
-    ∷ node role.Body kind.FunctionBody []
-    (node role.Body kind.ExpressionStatement []
-    (node role.Expression kind.IdentifierReference (codes "a") []
-    ∷ [])
-    ∷ [])
+    ∷ node role.ReturnType kind.TSTypeAnnotation [] (node role.Element kind.TSTypeQuery [] (reference role.Name (codes "a") ∷ []) ∷ [])
+    ∷ function_body (mention (codes "a") ∷ [])
     ∷ [])
     ∷ [])
 
@@ -513,45 +289,22 @@ ambient =
     program goal.Module lang.Ts
     (node role.Body kind.ExportNamedDeclaration [] []
     ∷ marked (mark.Declare ∷ []) role.Body kind.TSNamespaceDeclaration []
-    (node role.Id kind.BindingIdentifier (codes "N") []
+    (binding role.Id (codes "N")
     ∷ node role.Body kind.TSModuleBlock []
-    (node role.Body kind.VariableDeclaration (codes "const")
-    (node role.Declarators kind.VariableDeclarator []
-    (node role.Id kind.BindingIdentifier (codes "a") []
-    ∷ node role.Annotation kind.TSTypeAnnotation []
-    (node role.Element kind.TSLiteralType []
-    (marked (mark.Decimal ∷ []) role.Literal kind.NumericLiteral (codes "1") []
+    (declared role.Body (codes "const")
+    (binding role.Id (codes "a")
+    ∷ node role.Annotation kind.TSTypeAnnotation [] (node role.Element kind.TSLiteralType [] (number role.Literal (codes "1") ∷ []) ∷ [])
     ∷ [])
     ∷ [])
     ∷ [])
-    ∷ [])
-    ∷ [])
-    ∷ [])
-    ∷ node role.Body kind.TSNamespaceDeclaration []
-    (node role.Id kind.BindingIdentifier (codes "N") []
-    ∷ node role.Body kind.TSModuleBlock []
-    (node role.Body kind.ExpressionStatement []
-    (node role.Expression kind.IdentifierReference (codes "a") []
-    ∷ [])
-    ∷ [])
-    ∷ [])
+    ∷ namespace role.Body (codes "N") (mention (codes "a") ∷ [])
     ∷ marked (mark.Declare ∷ []) role.Body kind.TSGlobalDeclaration []
     (node role.Body kind.TSModuleBlock []
-    (node role.Body kind.TSInterfaceDeclaration []
-    (node role.Id kind.BindingIdentifier (codes "G") []
-    ∷ node role.Body kind.TSInterfaceBody [] []
+    (node role.Body kind.TSInterfaceDeclaration [] (binding role.Id (codes "G") ∷ node role.Body kind.TSInterfaceBody [] [] ∷ []) ∷ [])
     ∷ [])
-    ∷ [])
-    ∷ [])
-    ∷ node role.Body kind.VariableDeclaration (codes "let")
-    (node role.Declarators kind.VariableDeclarator []
-    (node role.Id kind.BindingIdentifier (codes "g") []
-    ∷ node role.Annotation kind.TSTypeAnnotation []
-    (node role.Element kind.TSTypeReference []
-    (node role.Name kind.IdentifierReference (codes "G") []
-    ∷ [])
-    ∷ [])
-    ∷ [])
+    ∷ declared role.Body (codes "let")
+    (binding role.Id (codes "g")
+    ∷ node role.Annotation kind.TSTypeAnnotation [] (node role.Element kind.TSTypeReference [] (reference role.Name (codes "G") ∷ []) ∷ [])
     ∷ [])
     ∷ [])
 
@@ -559,31 +312,8 @@ ambient =
 abbrev pub sloppy_blocks : Tree
 sloppy_blocks =
     program goal.Script lang.Ts
-    (node role.Body kind.VariableDeclaration (codes "let")
-    (node role.Declarators kind.VariableDeclarator []
-    (node role.Id kind.BindingIdentifier (codes "f") []
-    ∷ marked (mark.Decimal ∷ []) role.Init kind.NumericLiteral (codes "0") []
-    ∷ [])
-    ∷ [])
-    ∷ node role.Body kind.Function (codes "declaration")
-    (node role.Id kind.BindingIdentifier (codes "g") []
-    ∷ node role.Params kind.FormalParameters (codes "formal") []
-    ∷ node role.Body kind.FunctionBody []
-    (node role.Body kind.BlockStatement []
-    (node role.Body kind.Function (codes "declaration")
-    (node role.Id kind.BindingIdentifier (codes "f") []
-    ∷ node role.Params kind.FormalParameters (codes "formal") []
-    ∷ node role.Body kind.FunctionBody [] []
-    ∷ [])
-    ∷ node role.Body kind.ExpressionStatement []
-    (node role.Expression kind.IdentifierReference (codes "f") []
-    ∷ [])
-    ∷ [])
-    ∷ node role.Body kind.ExpressionStatement []
-    (node role.Expression kind.IdentifierReference (codes "f") []
-    ∷ [])
-    ∷ [])
-    ∷ [])
+    (declared role.Body (codes "let") (binding role.Id (codes "f") ∷ number role.Init (codes "0") ∷ [])
+    ∷ function role.Body (codes "g") [] (block role.Body (function role.Body (codes "f") [] [] ∷ mention (codes "f") ∷ []) ∷ mention (codes "f") ∷ [])
     ∷ [])
 
 -- `export {}; { function f() {} f; } f;`
@@ -591,19 +321,8 @@ abbrev pub strict_blocks : Tree
 strict_blocks =
     program goal.Module lang.Ts
     (node role.Body kind.ExportNamedDeclaration [] []
-    ∷ node role.Body kind.BlockStatement []
-    (node role.Body kind.Function (codes "declaration")
-    (node role.Id kind.BindingIdentifier (codes "f") []
-    ∷ node role.Params kind.FormalParameters (codes "formal") []
-    ∷ node role.Body kind.FunctionBody [] []
-    ∷ [])
-    ∷ node role.Body kind.ExpressionStatement []
-    (node role.Expression kind.IdentifierReference (codes "f") []
-    ∷ [])
-    ∷ [])
-    ∷ node role.Body kind.ExpressionStatement []
-    (node role.Expression kind.IdentifierReference (codes "f") []
-    ∷ [])
+    ∷ block role.Body (function role.Body (codes "f") [] [] ∷ mention (codes "f") ∷ [])
+    ∷ mention (codes "f")
     ∷ [])
 
 -- `export {}; type A = 1; function f(a: A) { type A = 2; let b: A; } { const A = 1; let c: A; }`
@@ -612,58 +331,25 @@ local_types =
     program goal.Module lang.Ts
     (node role.Body kind.ExportNamedDeclaration [] []
     ∷ node role.Body kind.TSTypeAliasDeclaration []
-    (node role.Id kind.BindingIdentifier (codes "A") []
-    ∷ node role.ValueType kind.TSLiteralType []
-    (marked (mark.Decimal ∷ []) role.Literal kind.NumericLiteral (codes "1") []
-    ∷ [])
-    ∷ [])
-    ∷ node role.Body kind.Function (codes "declaration")
-    (node role.Id kind.BindingIdentifier (codes "f") []
-    ∷ node role.Params kind.FormalParameters (codes "formal")
+    (binding role.Id (codes "A") ∷ node role.ValueType kind.TSLiteralType [] (number role.Literal (codes "1") ∷ []) ∷ [])
+    ∷ function role.Body (codes "f")
     (node role.Items kind.FormalParameter []
-    (node role.Pattern kind.BindingIdentifier (codes "a") []
-    ∷ node role.Annotation kind.TSTypeAnnotation []
-    (node role.Element kind.TSTypeReference []
-    (node role.Name kind.IdentifierReference (codes "A") []
+    (binding role.Pattern (codes "a")
+    ∷ node role.Annotation kind.TSTypeAnnotation [] (node role.Element kind.TSTypeReference [] (reference role.Name (codes "A") ∷ []) ∷ [])
     ∷ [])
     ∷ [])
-    ∷ [])
-    ∷ [])
-    ∷ node role.Body kind.FunctionBody []
     (node role.Body kind.TSTypeAliasDeclaration []
-    (node role.Id kind.BindingIdentifier (codes "A") []
-    ∷ node role.ValueType kind.TSLiteralType []
-    (marked (mark.Decimal ∷ []) role.Literal kind.NumericLiteral (codes "2") []
+    (binding role.Id (codes "A") ∷ node role.ValueType kind.TSLiteralType [] (number role.Literal (codes "2") ∷ []) ∷ [])
+    ∷ declared role.Body (codes "let")
+    (binding role.Id (codes "b")
+    ∷ node role.Annotation kind.TSTypeAnnotation [] (node role.Element kind.TSTypeReference [] (reference role.Name (codes "A") ∷ []) ∷ [])
     ∷ [])
     ∷ [])
-    ∷ node role.Body kind.VariableDeclaration (codes "let")
-    (node role.Declarators kind.VariableDeclarator []
-    (node role.Id kind.BindingIdentifier (codes "b") []
-    ∷ node role.Annotation kind.TSTypeAnnotation []
-    (node role.Element kind.TSTypeReference []
-    (node role.Name kind.IdentifierReference (codes "A") []
-    ∷ [])
-    ∷ [])
-    ∷ [])
-    ∷ [])
-    ∷ [])
-    ∷ [])
-    ∷ node role.Body kind.BlockStatement []
-    (node role.Body kind.VariableDeclaration (codes "const")
-    (node role.Declarators kind.VariableDeclarator []
-    (node role.Id kind.BindingIdentifier (codes "A") []
-    ∷ marked (mark.Decimal ∷ []) role.Init kind.NumericLiteral (codes "1") []
-    ∷ [])
-    ∷ [])
-    ∷ node role.Body kind.VariableDeclaration (codes "let")
-    (node role.Declarators kind.VariableDeclarator []
-    (node role.Id kind.BindingIdentifier (codes "c") []
-    ∷ node role.Annotation kind.TSTypeAnnotation []
-    (node role.Element kind.TSTypeReference []
-    (node role.Name kind.IdentifierReference (codes "A") []
-    ∷ [])
-    ∷ [])
-    ∷ [])
+    ∷ block role.Body
+    (declared role.Body (codes "const") (binding role.Id (codes "A") ∷ number role.Init (codes "1") ∷ [])
+    ∷ declared role.Body (codes "let")
+    (binding role.Id (codes "c")
+    ∷ node role.Annotation kind.TSTypeAnnotation [] (node role.Element kind.TSTypeReference [] (reference role.Name (codes "A") ∷ []) ∷ [])
     ∷ [])
     ∷ [])
     ∷ [])
@@ -674,57 +360,33 @@ equated =
     program goal.Module lang.Ts
     (node role.Body kind.ExportNamedDeclaration [] []
     ∷ node role.Body kind.TSNamespaceDeclaration []
-    (node role.Id kind.BindingIdentifier (codes "A") []
-    ∷ node role.Body kind.TSNamespaceDeclaration []
-    (node role.Id kind.BindingIdentifier (codes "B") []
-    ∷ node role.Body kind.TSModuleBlock []
+    (binding role.Id (codes "A")
+    ∷ namespace role.Body (codes "B")
     (node role.Body kind.ExportDeclaration []
     (node role.Declaration kind.TSTypeAliasDeclaration []
-    (node role.Id kind.BindingIdentifier (codes "T") []
-    ∷ node role.ValueType kind.TSLiteralType []
-    (marked (mark.Decimal ∷ []) role.Literal kind.NumericLiteral (codes "1") []
-    ∷ [])
-    ∷ [])
-    ∷ [])
+    (binding role.Id (codes "T") ∷ node role.ValueType kind.TSLiteralType [] (number role.Literal (codes "1") ∷ []) ∷ [])
     ∷ [])
     ∷ [])
     ∷ [])
     ∷ node role.Body kind.TSImportEqualsDeclaration []
-    (node role.Id kind.BindingIdentifier (codes "C") []
-    ∷ node role.Reference kind.TSQualifiedName []
-    (node role.Left kind.IdentifierReference (codes "A") []
-    ∷ node role.Right kind.IdentifierName (codes "B") []
+    (binding role.Id (codes "C")
+    ∷ node role.Reference kind.TSQualifiedName [] (reference role.Left (codes "A") ∷ node role.Right kind.IdentifierName (codes "B") [] ∷ [])
+    ∷ [])
+    ∷ node role.Body kind.TSImportEqualsDeclaration [] (binding role.Id (codes "D") ∷ reference role.Reference (codes "A") ∷ [])
+    ∷ declared role.Body (codes "let")
+    (binding role.Id (codes "x")
+    ∷ node role.Annotation kind.TSTypeAnnotation []
+    (node role.Element kind.TSTypeReference []
+    (node role.Name kind.TSQualifiedName [] (reference role.Left (codes "C") ∷ node role.Right kind.IdentifierName (codes "T") [] ∷ []) ∷ [])
     ∷ [])
     ∷ [])
-    ∷ node role.Body kind.TSImportEqualsDeclaration []
-    (node role.Id kind.BindingIdentifier (codes "D") []
-    ∷ node role.Reference kind.IdentifierReference (codes "A") []
-    ∷ [])
-    ∷ node role.Body kind.VariableDeclaration (codes "let")
-    (node role.Declarators kind.VariableDeclarator []
-    (node role.Id kind.BindingIdentifier (codes "x") []
+    ∷ declared role.Body (codes "let")
+    (binding role.Id (codes "y")
     ∷ node role.Annotation kind.TSTypeAnnotation []
     (node role.Element kind.TSTypeReference []
     (node role.Name kind.TSQualifiedName []
-    (node role.Left kind.IdentifierReference (codes "C") []
+    (node role.Left kind.TSQualifiedName [] (reference role.Left (codes "D") ∷ node role.Right kind.IdentifierName (codes "B") [] ∷ [])
     ∷ node role.Right kind.IdentifierName (codes "T") []
-    ∷ [])
-    ∷ [])
-    ∷ [])
-    ∷ [])
-    ∷ [])
-    ∷ node role.Body kind.VariableDeclaration (codes "let")
-    (node role.Declarators kind.VariableDeclarator []
-    (node role.Id kind.BindingIdentifier (codes "y") []
-    ∷ node role.Annotation kind.TSTypeAnnotation []
-    (node role.Element kind.TSTypeReference []
-    (node role.Name kind.TSQualifiedName []
-    (node role.Left kind.TSQualifiedName []
-    (node role.Left kind.IdentifierReference (codes "D") []
-    ∷ node role.Right kind.IdentifierName (codes "B") []
-    ∷ [])
-    ∷ node role.Right kind.IdentifierName (codes "T") []
-    ∷ [])
     ∷ [])
     ∷ [])
     ∷ [])
@@ -769,29 +431,15 @@ abbrev pub index_parameters : Tree
 index_parameters =
     program goal.Module lang.Ts
     (node role.Body kind.ExportNamedDeclaration [] []
-    ∷ node role.Body kind.VariableDeclaration (codes "let")
-    (node role.Declarators kind.VariableDeclarator []
-    (node role.Id kind.BindingIdentifier (codes "k") []
-    ∷ marked (mark.Decimal ∷ []) role.Init kind.NumericLiteral (codes "1") []
-    ∷ [])
-    ∷ [])
-    ∷ node role.Body kind.VariableDeclaration (codes "let")
-    (node role.Declarators kind.VariableDeclarator []
-    (node role.Id kind.BindingIdentifier (codes "x") []
+    ∷ declared role.Body (codes "let") (binding role.Id (codes "k") ∷ number role.Init (codes "1") ∷ [])
+    ∷ declared role.Body (codes "let")
+    (binding role.Id (codes "x")
     ∷ node role.Annotation kind.TSTypeAnnotation []
     (node role.Element kind.TSTypeLiteral []
     (node role.Members kind.TSIndexSignature []
     (node role.Parameters kind.TSIndexSignatureName (codes "k")
-    (node role.Annotation kind.TSTypeAnnotation []
-    (node role.Element kind.TSStringKeyword [] []
-    ∷ [])
-    ∷ [])
-    ∷ node role.Annotation kind.TSTypeAnnotation []
-    (node role.Element kind.TSTypeQuery []
-    (node role.Name kind.IdentifierReference (codes "k") []
-    ∷ [])
-    ∷ [])
-    ∷ [])
+    (node role.Annotation kind.TSTypeAnnotation [] (node role.Element kind.TSStringKeyword [] [] ∷ []) ∷ [])
+    ∷ node role.Annotation kind.TSTypeAnnotation [] (node role.Element kind.TSTypeQuery [] (reference role.Name (codes "k") ∷ []) ∷ [])
     ∷ [])
     ∷ [])
     ∷ [])

@@ -19,38 +19,22 @@ use Rattle.language_ties.specs.Agreement.{differing}
 use Rattle.language_ties.specs.EarlyErrors.{has_clash}
 use Rattle.language_ties.specs.Meaning.{meanings, bound}
 use Rattle.language_ties.specs.declared.environment_kind.EnvironmentKind.TheVariants.{Global}
-use Rattle.tangle_model.proofs.ProgramTrees.{marked, node, program}
+use Rattle.tangle_model.proofs.ProgramTrees.{marked, node, program, binding, block, declared, function_parts, mention}
 
 -- `{ async function f() {} var [f, f] = [] }`
 abbrev block_with_pattern : Forest
 block_with_pattern =
-    node role.Body kind.BlockStatement []
-    (marked (mark.Async ∷ []) role.Body kind.Function (codes "declaration")
-    (node role.Id kind.BindingIdentifier (codes "f") []
-    ∷ node role.Params kind.FormalParameters (codes "formal") []
-    ∷ node role.Body kind.FunctionBody [] []
-    ∷ [])
-    ∷ node role.Body kind.VariableDeclaration (codes "var")
-    (node role.Declarators kind.VariableDeclarator []
-    (node role.Id kind.ArrayPattern []
-    (node role.Elements kind.BindingIdentifier (codes "f") []
-    ∷ node role.Elements kind.BindingIdentifier (codes "f") []
-    ∷ [])
+    block role.Body
+    (marked (mark.Async ∷ []) role.Body kind.Function (codes "declaration") (function_parts (codes "f") [] [])
+    ∷ declared role.Body (codes "var")
+    (node role.Id kind.ArrayPattern [] (binding role.Elements (codes "f") ∷ binding role.Elements (codes "f") ∷ [])
     ∷ node role.Init kind.ArrayExpression [] []
-    ∷ [])
     ∷ [])
     ∷ [])
 
 -- twice, and `f` behind it
 abbrev pub pattern_twice : Tree
-pattern_twice =
-    program goal.Script lang.Js
-    (block_with_pattern
-    ∷ block_with_pattern
-    ∷ node role.Body kind.ExpressionStatement []
-    (node role.Expression kind.IdentifierReference (codes "f") []
-    ∷ [])
-    ∷ [])
+pattern_twice = program goal.Script lang.Js (block_with_pattern ∷ block_with_pattern ∷ mention (codes "f") ∷ [])
 
 pattern_twice_faultless : first_fault pattern_twice ≡ None
 unfolding encode chars
