@@ -3,17 +3,17 @@ use Rattle.std.proofs.Common.{◌≡◌, ℕ, List, [], Some, None, String, subs
 use Rattle.std.specs.declared.alloc.Global.{Global}
 use Rattle.program_ends.specs.Calls.{SinkCall}
 use Rattle.program_ends.specs.Completeness.{IsDoneOrMemory, IsUsageOrMemory}
-use Rattle.report.specs.Codes.{end_of}
+use Rattle.program_ends.specs.FindingEnds.{end_of}
 use Rattle.report.specs.Meaning.{Means, IsClearFor}
 use Rattle.report.specs.Requests.{request_of}
-use Rattle.report_answers.specs.declared.status.ReportStatus.{ReportStatus}
+use Rattle.program_ends.specs.declared.finding.FindingStatus.{FindingStatus}
 use Rattle.analysis_c.specs.Answers.{source_with, sink_of, Ran}
 
 -- a sink that held this, has taken more, and never failed
 abbrev pub sink_from : List ℕ → List ℕ → SinkCall
 sink_from before after = record { held = Some before; held_then = Some after; faults = 0; faults_then = 0 }
 
-pub ran_from_empty : (had tree left before report before_errs message : List ℕ) (words : List (String Global)) (result : ReportStatus) → had ≡ tree → before ≡ [] → before_errs ≡ []
+pub ran_from_empty : (had tree left before report before_errs message : List ℕ) (words : List (String Global)) (result : FindingStatus) → had ≡ tree → before ≡ [] → before_errs ≡ []
     → Means (source_with had left) (sink_from before report) (sink_from before_errs message) words result
     → (IsClearFor (request_of words) (source_with had left) (sink_from before report) → IsDoneOrMemory (end_of result))
     → (request_of words ≡ None → IsUsageOrMemory (end_of result)) → Ran tree report message words result

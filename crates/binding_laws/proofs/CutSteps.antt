@@ -24,13 +24,13 @@ use Rattle.semantic_model.specs.Event.{takes_over, ends_header, is_catch_body, t
 use Rattle.semantic_model.specs.Step.{Step, entering, opening, header_ending, closing, leaving, steps}
 use Rattle.semantic_model.proofs.form.Clauses.{kind_is}
 use Rattle.semantic_model.proofs.fold.EachDeclared.{EachDeclared, each_on_opening}
-use Rattle.walk_model.specs.Walks.{numbers}
+use Rattle.semantic_model.specs.TablesOf.{numbers}
 use Rattle.walk_model.proofs.declares.Simulated.{program_nested, root_declares_none, body_has_var, first_below, solid}
 use Rattle.walk_model.proofs.places.Grounds.{IsGrounded, AllGrounded, all_grounded}
 use Rattle.walk_model.proofs.places.Nested.{Descends, AreNested, IsNestedStep, open_past, seen_past, seen_longer, contains_more}
 use Rattle.walk_model.proofs.places.Routes.{grounded, HasVar, entering_goes}
 use Rattle.walk_model.proofs.headers.NoStatements.{is_closed}
-use Rattle.walk_model.proofs.headers.Headed.{awaiting_past, flags_past, has_header, AllMatch, AllVarAbove, VarAbove, IsSheltered, AllLess, IsHeadedStep, AreHeaded, not_among}
+use Rattle.walk_model.proofs.headers.Headed.{awaiting_past, flags_past, has_header, AllMatch, match_among, AllVarAbove, VarAbove, IsSheltered, AllLess, reference_matches, IsHeadedStep, AreHeaded, not_among}
 use Rattle.walk_model.proofs.headers.HeadedProgram.{program_headed}
 use Rattle.walk_model.proofs.headers.TouchedScopes.{ChainOn, declares_touch, entering_by_var}
 use Rattle.binding_laws.proofs.CutEvents.{is_scope, AllBefore, AllBehind, Cut, no_end, ended, not_yet, cut-append, before-append, behind-append, entering_behind, entering_before, touched_before, IsOwnPlain, opening_behind, opening_before, own_before}
@@ -325,18 +325,13 @@ pub cut_program : (p : Tree) (c : ℕ) → first_fault p ≡ None → WillAwait 
 cut_program p c h w =
     cut_steps c (written_declarations (steps p)) [] [] [] [] (steps p) refl (program_headed p h) (program_matched p h) (program_nested p) (all_grounded p h) tt refl (omega arith) w
 
-match_among : (aw : List ℕ) (chain : List OpenScope) (s : OpenScope) → AllMatch aw chain → Among s chain → s.in_header ≡ contains aw s.number
-match_among aw [] s h a = absurd a
-match_among aw (x ∷ xs) s h (inl e) = subst (λ (o : OpenScope). o.in_header ≡ contains aw o.number) e h.0
-match_among aw (x ∷ xs) s h (inr a) = match_among aw xs s h.1 a
-
 -- a header that holds a reference is awaited where that stands
 reference_awaits : (r : Occurrence) (s : OpenScope) (aw fs : List ℕ) (ss : List Step) → AreHeaded aw fs ss → Among r (references ss) → Among s r.chain → s.in_header ≡ true → WillAwait s.number aw ss
 reference_awaits r s aw fs [] h a b e = absurd a
 reference_awaits r s aw fs (entering p ∷ ss) h a b e = by (λ q. inr (reference_awaits r s aw fs ss h.1 q b e)) (is kind.IdentifierReference p.node) refl a
   where
     by : (Among r (references ss) → WillAwait s.number aw (entering p ∷ ss)) → (t : Bool) → is kind.IdentifierReference p.node ≡ t → Among r (cons_option (cond t (Some (reference_at p)) None) (references ss)) → WillAwait s.number aw (entering p ∷ ss)
-    by later true i (inl q) = inl (sym (match_among aw p.chain s (h.0.matches i) (subst (λ (o : Occurrence). Among s o.chain) (sym q) b)) ∙ e)
+    by later true i (inl q) = inl (sym (match_among aw p.chain s (reference_matches aw fs p h.0 i) (subst (λ (o : Occurrence). Among s o.chain) (sym q) b)) ∙ e)
     by later true i (inr q) = later q
     by later false i q = later q
 reference_awaits r s aw fs (opening p o ∷ ss) h a b e = inr (reference_awaits r s (awaiting_past aw (opening p o)) (flags_past fs (opening p o)) ss h.1 a b e)

@@ -11,9 +11,9 @@ use Rattle.semantic_tree.specs.Forest.{Forest, nothing, tree, join}
 use Rattle.semantic_tree.specs.Tree.{Tree, numbered_tree}
 use Rattle.semantic_model.specs.Reference.{references}
 use Rattle.semantic_model.specs.Step.{steps}
-use Rattle.semantic_model.specs.TablesOf.{tables_of}
+use Rattle.semantic_model.specs.TablesOf.{tables_of, made_of}
 use Rattle.semantic_model.proofs.examples.SmallPrograms.{default_sees_outside, nested_headers, catch_pattern_with_arrow, arguments_outside, parameter_decorator}
-use Rattle.binding_laws.specs.SeenDeclarations.{made_of, first_seen}
+use Rattle.binding_laws.specs.SeenDeclarations.{first_seen}
 
 abbrev seen : Tree → List (Option ℕ)
 seen p = map (first_seen p) (references (steps p))

@@ -38,7 +38,7 @@ use Rattle.semantic_model.proofs.lists.SymbolLaws.{get-last, get-push}
 use Rattle.semantic_model.proofs.once.ListedUnder.{name_tells}
 use Rattle.semantic_model.proofs.once.UseLists.{IsBelow}
 use Rattle.semantic_model.proofs.steps.Compose.{run-append}
-use Rattle.walk_model.specs.Walks.{numbers}
+use Rattle.semantic_model.specs.TablesOf.{numbers}
 use Rattle.walk_model.proofs.declares.Simulated.{program_nested, root_declares_none, solid}
 use Rattle.walk_model.proofs.headers.Frozen.{IsWithin, below, within_step}
 use Rattle.walk_model.proofs.places.Grounds.{IsGrounded, AllGrounded, all_grounded}
@@ -355,6 +355,41 @@ module _ (block : Bool) (c : ℕ) (x : Name) where
       settles (header_ending p s) r k2 i2 o2 = absurd r
       settles (closing p s) r k2 i2 o2 = absurd r
       settles (leaving p) r k2 i2 o2 = absurd r
+
+  -- a scope that is no clause has no body that takes over
+  none_taking : (table : List (Option ℕ)) (root : slice_get table 0 ≡ Some None) → slice_get table c ≡ Some None → (ds : List Declaration) (ss : List Step) (step : Step) → IsTaking step → AllEventsIn table root (flat_map (events_of ds) (step ∷ ss)) → ⊥
+  none_taking table root lone ds ss (opening p s) r i = by (is_catch_body p) r.0 i
+    where
+      by : (y : Bool) → y ≡ true → AllEventsIn table root ((cond y (takes_over (innermost p.chain).number s.number ∷ []) [] ++ declares_all ds (declared_on_opening p s)) ++ flat_map (events_of ds) ss) → ⊥
+      by true z j = let t : ◌≡◌ {A = Option (Option ℕ)} (Some None) (Some (Some s.number)) = sym lone ∙ ap (slice_get table) (sym r.1) ∙ j.0.0 in absurd cc
+      by false z j = absurd cc
+  none_taking table root lone ds ss (entering p) r i = absurd r
+  none_taking table root lone ds ss (header_ending p s) r i = absurd r
+  none_taking table root lone ds ss (closing p s) r i = absurd r
+  none_taking table root lone ds ss (leaving p) r i = absurd r
+
+  steps_keep : (table : List (Option ℕ)) (root : slice_get table 0 ≡ Some None) → slice_get table c ≡ Some None → (ds : List Declaration) (stack : List ℕ) (seen : List (List ℕ)) (ss : List Step) (st : State) → AreNested stack seen ss → AllGrounded ss → AllFree (flat_map (events_of ds) ss) → AllEventsIn table root (flat_map (events_of ds) ss) → IsWithin (length seen) st → MadeBelow (length seen) st → IsSound st
+      → Keeps block c x st → Keeps block c x (run st (flat_map (events_of ds) ss))
+  steps_keep table root lone ds stack seen [] st k g f i w l b h = h
+  steps_keep table root lone ds stack seen (step ∷ ss) st k g f i w l b h = elim (apart_or step) [
+    | inl r ↦ subst (Keeps block c x) (sym (run-append es rest st))
+        (steps_keep table root lone ds (open_past stack step) (seen_past seen step) ss (run st es) k.1 g.1 (free_right es rest f) (events_right table root es rest i) (within_step ds st stack seen step k.0 g.0 w) (step_below ds stack seen step ss st k.0 g l) (run_grows st es b).sound
+        (step_keeps ds stack seen step st r k.0 (free_left es rest f) w l b h))
+    | inr r ↦ absurd (none_taking table root lone ds ss step r i)
+  ]
+    where
+      es : List Event
+      es = events_of ds step
+
+      rest : List Event
+      rest = flat_map (events_of ds) ss
+
+-- a scope that is no clause keeps the symbol of its name to the end
+pub end_keeps : (p : Tree) → first_fault p ≡ None → (block : Bool) (c : ℕ) (x : Name) → slice_get (table_of p) c ≡ Some None → ((d : Declaration) → Among d (declarations (events (steps p))) → d.naming.name ≡ x → IsFreeBy block c x d.how d) → Keeps block c x (run start (events (steps p)))
+end_keeps p h block c x lone free =
+    let f : HasForm p = has_form p h in
+    steps_keep block c x (table_of p) (root_body p f) lone (written_declarations (steps p)) [] [] (steps p) start (program_nested p) (all_grounded p h) (all_free block c x (events (steps p)) free) (events_in p f)
+    (record { bindings = λ e q. absurd q; remembered = λ e q. absurd q }) (λ e q. absurd q) start_is_sound (record { bound_to = λ e q. absurd q; bare = λ z. refl; told = λ m n g. absurd g })
 
 -- so it is in a program in which nothing takes the name from the scope
 pub end_settled : (p : Tree) → first_fault p ≡ None → (block : Bool) (c : ℕ) (x : Name) → ((d : Declaration) → Among d (declarations (events (steps p))) → d.naming.name ≡ x → IsFreeBy block c x d.how d) → IsSettled block c x (run start (events (steps p)))

@@ -13,4 +13,5 @@ pub mod KeptSteps
 pub mod SymbolsAtNodes
 pub mod CatchNames
 pub mod VarScopes
+pub mod BoundAtTop
 pub mod OneSymbolEach

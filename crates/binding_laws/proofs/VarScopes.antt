@@ -14,7 +14,7 @@ use Rattle.semantic_model.specs.Binder.{is_var, declared_by, declared_on_enterin
 use Rattle.semantic_model.specs.Declaration.{How, plain, hoisted, moved, caught, Declaration, Route, here, passed_before, first_with, route_from, outward_to, outward_past, stands_in, scope_it_stands_in}
 use Rattle.semantic_model.specs.Entries.{Among}
 use Rattle.semantic_model.specs.Event.{Event, declares, takes_over, ends_header, is_barred, staying_declaration, placed_by, placed, is_catch_body, taken_over, declares_all, events_of, written_declarations, events, declarations}
-use Rattle.semantic_model.specs.Fold.{start}
+use Rattle.semantic_model.specs.Fold.{Made, start}
 use Rattle.semantic_model.specs.Place.{Place, OpenScope, innermost, outside}
 use Rattle.semantic_model.specs.Step.{Step, entering, opening, header_ending, closing, leaving, steps}
 use Rattle.semantic_model.proofs.fits.NothingInvented.{made_declared}
@@ -29,6 +29,7 @@ use Rattle.walk_model.proofs.places.Nested.{AreNested, open_past, seen_past}
 use Rattle.walk_model.proofs.places.Routes.{grounded, HasVar, GoesOut, AllGoOut, entering_goes, placed_goes, not_var, Leaves}
 use Rattle.walk_model.proofs.refers.HeaderEnds.{flagged_prefix}
 use Rattle.binding_laws.specs.OneSymbol.{takes_by, VarScopesKeepNames}
+use Rattle.semantic_model.specs.TablesOf.{made_of}
 use Rattle.binding_laws.proofs.CatchNames.{IsNotCaught, none_caught, IsCatchStep, catch_steps}
 use Rattle.binding_laws.proofs.CutEvents.{placed_plain}
 use Rattle.binding_laws.proofs.CutSteps.{same_length}
@@ -320,3 +321,12 @@ module _ (p : Tree) (h : first_fault p ≡ None) where
 
   pub moved_apart : (f d : Declaration) → Among f (declarations (events (steps p))) → Among d (declarations (events (steps p))) → f.how ≡ moved → d.how ≡ moved → d.route.target.number ≡ stands_in f → ⊥
   moved_apart f d a b e i q = none_comes fs f d (on_way f a) (on_way d b) e (subst (λ how. IsReaching how d.route) i (on_way d b).reaches (subst (λ how. Leaves how d.route.passed) i (on_way d b).leaves)) q
+
+  -- no block function begins in a scope where `var` goes
+  pub none_begins : (m : Made) → Among m (made_of p) → is_var m.declaration.route.target ≡ true → (f : Declaration) → Among f (declarations (events (steps p))) → f.how ≡ moved → stands_in f ≡ m.declaration.route.target.number → ⊥
+  none_begins m a v f b e q =
+      no_var fs (scope_it_stands_in f) m.declaration.route.target m.declaration.route.target.number (subst (λ how. IsPassing how f.route) e (on_way f b).passing) (flagged_first fs f.route.passed f.route.target (on_way f b).flagged)
+      (flagged_last fs m.declaration.route.passed m.declaration.route.target (on_way m.declaration among).flagged) v q
+    where
+      among : Among m.declaration (declarations (events (steps p)))
+      among = elim (made_declared m start (events (steps p)) a) [ inl k ↦ absurd k | inr k ↦ k ]

@@ -13,7 +13,8 @@ use Rattle.semantic_model.specs.Event.{events, declarations}
 use Rattle.semantic_model.specs.Fold.{Made, Conflict, start}
 use Rattle.semantic_model.specs.Hoist.{run}
 use Rattle.semantic_model.specs.Step.{steps}
-use Rattle.binding_laws.specs.SeenDeclarations.{made_of, is_own_name}
+use Rattle.semantic_model.specs.TablesOf.{made_of}
+use Rattle.binding_laws.specs.SeenDeclarations.{is_own_name}
 
 -- whether it takes its name from the scope: a `var` that passes it, a plain catch name, which is always new
 abbrev pub takes_by : How → ℕ → Declaration → Bool

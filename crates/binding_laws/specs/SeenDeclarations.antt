@@ -8,18 +8,12 @@ use Rattle.semantic_syntax.specs.Sets.{meets, union}
 use Rattle.semantic_syntax.specs.Tables.{Name, Tables}
 use Rattle.semantic_tree.specs.Tree.{Tree}
 use Rattle.semantic_model.specs.Declaration.{Declaration}
-use Rattle.semantic_model.specs.Event.{events}
-use Rattle.semantic_model.specs.Fold.{Made, start}
-use Rattle.semantic_model.specs.Hoist.{run}
+use Rattle.semantic_model.specs.Fold.{Made}
 use Rattle.semantic_model.specs.Place.{OpenScope}
 use Rattle.semantic_model.specs.Reference.{Occurrence, references}
 use Rattle.semantic_model.specs.Step.{steps}
-use Rattle.semantic_model.specs.TablesOf.{tables_of}
+use Rattle.semantic_model.specs.TablesOf.{tables_of, made_of}
 use Rattle.semantic_model.specs.Tie.{symbol_by}
-
--- the declarations of a program in order, each with its symbol
-abbrev pub made_of : Tree → List Made
-made_of p = (run start (events (steps p))).made
 
 -- whether it declares the own name of a function expression
 abbrev pub is_own_name : Declaration → Bool

@@ -3,6 +3,7 @@ pub mod Literals
 pub mod Statements
 pub mod Jumps
 pub mod Again
+pub mod Untold
 pub mod Classes
 pub mod Supers
 pub mod Expressions

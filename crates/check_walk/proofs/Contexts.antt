@@ -13,7 +13,7 @@ use Rattle.semantic_model.specs.Place.{Place, OpenScope, innermost}
 use Rattle.semantic_syntax.specs.Reading.{chain, bindings_of}
 use Rattle.walk_model.specs.WalkState.{WalkState}
 use Rattle.walk_model.specs.Shown.{ShowsScope, ShowsChain}
-use Rattle.walk_model.specs.Walks.{numbers}
+use Rattle.semantic_model.specs.TablesOf.{numbers}
 use Rattle.walk_model.proofs.turns.ChainWays.{rows_chain}
 use Rattle.check_model.specs.SightOf.{seen_scope, or_own, scopes_it_stands_in, scopes_at, elements_at, elements_if, elements_in_case, uses_at, uses_if, uses_in_case, list_if, narrowed_sight}
 use Rattle.check_model.specs.Rows.{rows_by, rows_of}

@@ -11,7 +11,7 @@ use Rattle.check_context.specs.declared.context.CheckContext.{CheckContext}
 use Rattle.check_context.proofs.Fitting.{both_hold, holds_both, tested_handed, handed_told}
 use Rattle.expression_checks.specs.SoundElements.{are_all_sound}
 use Rattle.expression_checks.proofs.AllSound.{tested_sound, sound_told}
-use Rattle.type_checks.specs.GoodTypes.{has_good_type, HasGoodSpan, HasGoodType}
+use Rattle.type_checks.specs.GoodTypes.{has_good_type, HasGoodSpan}
 use Rattle.checker.specs.Checkable.{is_checkable, IsCheckable}
 
 module _ (node : Node) (ctx : CheckContext) where

@@ -1,10 +1,6 @@
 //! The checks of a node, by its kind.
-ghost use Rattle.std.specs.Prelude.{◌≡◌, ◌++◌, false};
 ghost use Rattle.semantic_kinds.specs.declared.kind.AstType.TheVariants as kinds;
-ghost use Rattle.semantic_kinds.specs.declared.role.Role.TheVariants as roles;
-ghost use Rattle.check_model.specs.Classes.{check_class, check_class_redeclaration};
-ghost use Rattle.check_model.specs.Rows.{body_rows, rows_by, rows_of};
-ghost use Rattle.check_model.specs.Variables.{check_for_of_statement};
+ghost use Rattle.check_model.specs.Rows.{rows_by, rows_of};
 ghost use Rattle.check_context.specs.Handed.{sight, IsContext, IsHanded};
 ghost use Rattle.check_context.specs.Tells.{Tells};
 ghost use Rattle.checker.specs.Checkable.{IsCheckable};
@@ -107,22 +103,7 @@ fn check_for_in(
     check_left(alloc, kind, true, ctx, out)
 }
 
-/// What the rules tell of the body of a `for-of` (ECMAScript 14.7.5), and of its `await` (15.7.1).
-fn check_for_of_body(
-    alloc: Global,
-    kind: AstKind<'_>,
-    ctx: &CheckContext<'_, '_>,
-    out: &mut Diagnostics,
-) -> Result<(), AllocError>
-    requires { IsContext ctx.now }
-    ensures { let s = sight kind.entry.node.now ctx.now in
-        Tells result (body_rows roles.Body false s ++ check_for_of_statement s) out.old out.new }
-{
-    check_body(alloc, kind, Role::Body, false, ctx, out)?;
-    javascript::check_for_of_statement(alloc, kind, ctx, out)
-}
-
-/// What the rules tell of a `for-of` (ECMAScript 14.7.5.1).
+/// What the rules tell of a `for-of` (ECMAScript 14.7.5, 14.7.5.1), and of its `await` (15.7.1).
 fn check_for_of(
     alloc: Global,
     kind: AstKind<'_>,
@@ -133,26 +114,12 @@ fn check_for_of(
     ensures { Tells result (rows_by kinds.ForOfStatement (sight kind.entry.node.now ctx.now))
         out.old out.new }
 {
-    check_for_of_body(alloc, kind, ctx, out)?;
+    check_body(alloc, kind, Role::Body, false, ctx, out)?;
+    javascript::check_for_of_statement(alloc, kind, ctx, out)?;
     check_left(alloc, kind, false, ctx, out)
 }
 
-/// What the rules of JavaScript tell of a class, in TypeScript too (ECMAScript 15.7.1).
-fn check_javascript_class(
-    alloc: Global,
-    kind: AstKind<'_>,
-    ctx: &CheckContext<'_, '_>,
-    out: &mut Diagnostics,
-) -> Result<(), AllocError>
-    requires { IsHanded kind.node.now ctx.now }
-    ensures { let s = sight kind.entry.node.now ctx.now in
-        Tells result (check_class s ++ check_class_redeclaration s) out.old out.new }
-{
-    javascript::check_class(alloc, kind, ctx, out)?;
-    javascript::check_class_redeclaration(alloc, kind, ctx, out)
-}
-
-/// What the rules tell of a class, those of TypeScript last.
+/// What the rules tell of a class (ECMAScript 15.7.1), those of TypeScript last.
 fn check_whole_class(
     alloc: Global,
     kind: AstKind<'_>,
@@ -163,7 +130,8 @@ fn check_whole_class(
     ensures { Tells result (rows_by kinds.Class (sight kind.entry.node.now ctx.now)) out.old
         out.new }
 {
-    check_javascript_class(alloc, kind, ctx, out)?;
+    javascript::check_class(alloc, kind, ctx, out)?;
+    javascript::check_class_redeclaration(alloc, kind, ctx, out)?;
     typescript::check_class(alloc, kind, ctx, out)
 }
 

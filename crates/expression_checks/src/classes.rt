@@ -56,22 +56,6 @@ fn tell_class_name(
     }
 }
 
-/// Tells of a class without name, and of a second constructor.
-#[tactic(auto, using(check_context::proofs::Telling::telling))]
-fn tell_parts(
-    alloc: Global,
-    kind: AstKind<'_>,
-    ctx: &CheckContext<'_, '_>,
-    out: &mut Diagnostics,
-) -> Result<(), AllocError>
-    requires { IsHanded kind.node.now ctx.now }
-    ensures { let s = sight kind.entry.node.now ctx.now in
-        Tells result (rows.class_name_rows s ++ rows.constructor_rows s) out.old out.new }
-{
-    tell_class_name(alloc, kind, ctx, out)?;
-    tell_constructors(alloc, kind, out)
-}
-
 /// Each private name that a class uses is defined by it or by a class around it (ECMAScript 15.7.1,
 /// AllPrivateIdentifiersValid), a class that is declared has a name, except as the default export (15.7), and it has
 /// one constructor with a body (15.7.1, PrototypePropertyNameList).
@@ -86,7 +70,8 @@ pub fn check_class<'a>(
     ensures { Tells result (rows.check_class (sight kind.entry.node.now ctx.now)) out.old out.new }
 {
     tell_private_uses(alloc, ctx, out)?;
-    tell_parts(alloc, kind, ctx, out)
+    tell_class_name(alloc, kind, ctx, out)?;
+    tell_constructors(alloc, kind, out)
 }
 
 /// Tells of the name of a class whose last declaration but one is a function.

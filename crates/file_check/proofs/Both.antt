@@ -7,9 +7,7 @@ use Rattle.program_ends.proofs.Answering.{writes_not_all}
 use Rattle.program_ends.specs.Answering.{WritesAll}
 use Rattle.program_ends.specs.FindingEnds.{end_of}
 use Rattle.program_ends.specs.declared.finding.FindingStatus.{FindingStatus}
-use Rattle.report_answers.specs.Codes as report
-use Rattle.report_answers.specs.declared.status.ReportStatus.{ReportStatus}
-use Rattle.report_answers.specs.declared.status.ReportStatus.TheVariants.{Clean, Diagnosed, Usage, Tree, TooLong, Read, Write, Memory}
+use Rattle.program_ends.specs.declared.finding.FindingStatus.TheVariants.{Done, Found, Usage, Tree, TooLong, Read, Write, Memory}
 use Rattle.file_check.specs.Codes.{status_of_both, end_of_both}
 
 module _ {K S U : Type 0} (held : K → Option (List ℕ)) (faults : K → ℕ) (a b : K) (first second : List ℕ) (reported : S) (status : U) where
@@ -28,9 +26,9 @@ module _ {K S U : Type 0} (held : K → Option (List ℕ)) (faults : K → ℕ) 
   both_written c named given also told before writes same = (same, text_then held faults a b c first second (first ++ second) tt (Ok tt) before.1 writes.1 refl)
 
 -- the end of the status of both
-pub ends_of_both : (reported : ReportStatus) (named : FindingStatus) → end_of (status_of_both reported named) ≡ end_of_both (report.end_of reported) (end_of named)
-ends_of_both Clean named = refl
-ends_of_both Diagnosed named = refl
+pub ends_of_both : (reported named : FindingStatus) → end_of (status_of_both reported named) ≡ end_of_both (end_of reported) (end_of named)
+ends_of_both Done named = refl
+ends_of_both Found named = refl
 ends_of_both Usage named = refl
 ends_of_both Tree named = refl
 ends_of_both TooLong named = refl

@@ -19,7 +19,7 @@ ghost use Rattle.file_check.specs.Meaning.{Answers};
 
 use crate::CheckStatus;
 use name_lint::{NameReport, TreePass, finish_names, names_by};
-use report_answers::{ReportStatus, Request, finish_answer};
+use report_answers::{Request, finish_answer};
 use report_ends::{ReportError, Sink};
 use semantic::{SemanticBuilder, drop_analysis};
 use semantic_queries::SemanticBuilderReturn;
@@ -40,11 +40,11 @@ fn check_request() -> Request
 }
 
 /// The status of both answers: the lint's, unless the report has diagnostics.
-fn status_of_both(reported: ReportStatus, named: CheckStatus) -> CheckStatus
+fn status_of_both(reported: CheckStatus, named: CheckStatus) -> CheckStatus
     ensures { result ≡ status_of_both reported named }
 {
     match reported {
-        ReportStatus::Diagnosed => CheckStatus::Found,
+        CheckStatus::Found => CheckStatus::Found,
         _ => named,
     }
 }

@@ -24,6 +24,7 @@ struct FileCheck;
 
 impl FindingProgram for FileCheck {
     ghost use Rattle.std.proofs.Common.{ap, ◌∙◌};
+    ghost use Rattle.program_ends.specs.FindingEnds.{end_of};
     ghost use Rattle.program_ends.specs.Meaning.{is_answer};
     ghost use Rattle.report_answers.specs.Codes as report;
     ghost use Rattle.name_lint.specs.Known.{known_names};
@@ -41,7 +42,7 @@ impl FindingProgram for FileCheck {
 
     ghost ends_answer = { λ words end program text answers. ap is_answer (answers.ends
         ∙ ap (λ e. end_of_both e answers.names_end) answers.reported.ends
-        ∙ ap (end_of_both (report.end_of (report.status_for answers.reported.diagnostics)))
+        ∙ ap (end_of_both (end_of (report.status_for answers.reported.diagnostics)))
         answers.named.ends)
         ∙ both_answer answers.reported.diagnostics answers.named.unused
         (undeclared (known_names words) program) };

@@ -23,7 +23,6 @@ use Rattle.semantic_model.specs.Place as place
 use Rattle.semantic_model.specs.Place.{Place, is_strict, parent_holds}
 use Rattle.semantic_model.specs.ScopeKind.{opened_scope}
 use Rattle.semantic_model.specs.Step.{Step, entering, opening, header_ending, closing, leaving, steps}
-use Rattle.tangle_model.specs.Surroundings.{in_with_under}
 use Rattle.language_ties.specs.Bound.{Bound, bound_identifier, bound_here, bound_outward, bound_by_declarator, bound_by_declaration, bound_by_catch, bound_by_node}
 use Rattle.language_ties.specs.Bound as language
 use Rattle.language_ties.specs.ToldNames.{Told, told_by_declaration, told_by_bound, may_leave_block, DeclaresAsBound, Declares, DeclarationsAreBound}
@@ -51,10 +50,10 @@ same_told f g (x ∷ xs) h = λ i. h x i ∷ same_told f g xs h i
 same_told_last : (f : Node → Declaration) (g : Node → Bound) (names : List Node) → ((id : Node) → told_by_declaration (f id) ≡ told_by_bound (g id)) → map told_by_declaration (map f names ++ []) ≡ map told_by_bound (map g names)
 same_told_last f g names h = ap (map told_by_declaration) (append-nil (map f names)) ∙ same_told f g names h
 
-module _ (s : SourceType) (p : Place) (w : in_with_under p.path ≡ false) (known : IsKnown p) (strict : Strict s p) where
+module _ (s : SourceType) (p : Place) (known : IsKnown p) (strict : Strict s p) where
   -- the name stands in the innermost scope, as in the innermost environment
   stands_here : IsPlain p.node p.path → (place.innermost p.chain).opener ≡ (innermost (environments p.node p.path)).maker
-  stands_here plain = ap (λ m. m.node) (innermost_made p.chain p.node p.path (known.round w) plain)
+  stands_here plain = ap (λ m. m.node) (innermost_made p.chain p.node p.path known.round plain)
 
   names_here : IsPlain p.node p.path → (flags excluded : ℕ) (b : BoundAs) (names : List Node) → map told_by_declaration (declare_here p flags excluded names) ≡ map told_by_bound (map (bound_here b (environments p.node p.path)) names)
   names_here plain flags excluded b names =
@@ -71,7 +70,7 @@ module _ (s : SourceType) (p : Place) (w : in_with_under p.path ≡ false) (know
       inside = subst (λ q. (place.innermost p.chain).opener ≡ (innermost (environments p.node q)).maker) e (stands_here plain)
 
       go : (b : Bool) → is_with_text kind.VariableDeclaration (codes "var") declaration ≡ b → map told_by_declaration (map (declaration_at p.node (variable_row declaration p.chain) (is_pure_declarator p.node)) (bound_names p.node)) ≡ map told_by_bound (map (cond b (bound_outward (environments p.node (declaration ∷ path))) (bound_here bound.Lexical (environments p.node (declaration ∷ path)))) (bound_names p.node))
-      go true q = same_told (declaration_at p.node (variable_row declaration p.chain) (is_pure_declarator p.node)) (bound_outward (environments p.node (declaration ∷ path))) (bound_names p.node) (λ id. rw q (ap (told id) (out _ (variables_made p.chain p.node p.path (known.round w) plain))))
+      go true q = same_told (declaration_at p.node (variable_row declaration p.chain) (is_pure_declarator p.node)) (bound_outward (environments p.node (declaration ∷ path))) (bound_names p.node) (λ id. rw q (ap (told id) (out _ (variables_made p.chain p.node p.path known.round plain))))
       go false q = same_told (declaration_at p.node (variable_row declaration p.chain) (is_pure_declarator p.node)) (bound_here bound.Lexical (environments p.node (declaration ∷ path))) (bound_names p.node) (λ id. rw q (ap (told id) inside))
 
   parameters : IsPlain p.node p.path → (path : List Node) → (path ≡ [] → ⊥) → map told_by_declaration (parameters_under path p) ≡ map told_by_bound (map (bound_here bound.Parameter (environments p.node p.path)) (bound_names p.node))
@@ -111,13 +110,13 @@ module _ (s : SourceType) (p : Place) (w : in_with_under p.path ≡ false) (know
       go false e = same_told_last (declaration_at p.node (own_function_row p (opened_scope p 0)) (has mark.Pure p.node)) (bound_identifier bound.OwnName (record { kind = environment.OwnName; maker = p.node.node_id }) [] []) (ids p.node) (λ id. refl)
       go true e =
           let (tables, ours, no_body) = stays e in
-          let made : maker_of_scope (place.innermost p.chain) ≡ maker_of_environment (innermost (environments p.node p.path)) = innermost_made p.chain p.node p.path (known.round w) (inr no_body) in
+          let made : maker_of_scope (place.innermost p.chain) ≡ maker_of_environment (innermost (environments p.node p.path)) = innermost_made p.chain p.node p.path known.round (inr no_body) in
           same_told (declaration_at p.node (function_row p) (has mark.Pure p.node)) (bound_by_declaration s p.node p.path) (ids p.node) (λ id. rw (tables, ours) (ap (λ m. told id m.node) made))
 
   functions : p.node.kind ≡ kind.Function → may_leave_block s p.node p.path ≡ false
       → map told_by_declaration (cond (is_statement p.node) [] (map (declaration_at p.node (own_function_row p (opened_scope p 0)) (has mark.Pure p.node)) (ids p.node)) ++ cond (is_statement p.node) (map (declaration_at p.node (function_row p) (has mark.Pure p.node)) (ids p.node)) [])
       ≡ map told_by_bound (bound_by_node kind.Function s p.node p.path)
-  functions k h = functions_told (λ e. let stays : StaysInBlock s p.node p.path = stays_in_block s p.node p.path k e h in (stays_there s p known w strict k stays, stays.ours, stays.no_body))
+  functions k h = functions_told (λ e. let stays : StaysInBlock s p.node p.path = stays_in_block s p.node p.path k e h in (stays_there s p known strict k stays, stays.ours, stays.no_body))
 
   classes : IsPlain p.node p.path → map told_by_declaration (cond (is_statement p.node) [] (map (declaration_at p.node (class_row p (opened_scope p 0 ∷ [])) false) (ids p.node)) ++ cond (is_statement p.node) (map (declaration_at p.node (class_row p p.chain) false) (ids p.node)) [])
       ≡ map told_by_bound (bound_by_node kind.Class s p.node p.path)
@@ -161,7 +160,7 @@ module _ (s : SourceType) (p : Place) (w : in_with_under p.path ≡ false) (know
   by_kind _ k j h r = refl
 
 declares_as_bound : (s : SourceType) (p : Place) → IsKnown p → Strict s p → DeclaresAsBound s p
-declares_as_bound s p known strict = λ w h. by_kind s p w known strict p.node.kind refl known.ecmascript h known.whole
+declares_as_bound s p known strict = λ h. by_kind s p known strict p.node.kind refl known.ecmascript h known.whole
 
 declares_all : (s : SourceType) (ss : List Step) → EachStep KnownAt ss → EachStep (StrictAt s) ss → EachStep (Declares s) ss
 declares_all s [] k t = tt

@@ -32,12 +32,13 @@ use Rattle.semantic_model.proofs.steps.EachStep.{EachStep, each_of_node, each_of
 use Rattle.semantic_model.proofs.form.Clauses.{kind_is}
 use Rattle.semantic_model.proofs.form.ParameterChains.{is_open_inside}
 use Rattle.semantic_model.proofs.form.Shape.{has_form}
-use Rattle.tangle_model.specs.Surroundings.{in_with_under}
 use Rattle.language_ties.specs.EcmaScript.{is_ecmascript_kind, has_foreign_mark, is_foreign_text, is_ecmascript_forest, is_ecmascript}
-use Rattle.language_ties.specs.Environments.{Environment, is_outside_body, has_parameter_expressions, made_by, environments}
+use Rattle.language_ties.specs.Environments.{Environment, is_outside_body, has_parameter_expressions, is_body_of_with, made_by, environments}
 use Rattle.language_ties.specs.Scopes.{Maker, maker_of_scope, makers, HasItsEnvironments, HasThem, ScopesAreEnvironments}
 use Rattle.language_ties.specs.declared.environment_kind.EnvironmentKind.TheVariants as environment
 use Rattle.language_ties.proofs.SwitchShape.{is_case_by_role, cases_stand, program_cases, is_bare_rest, none_bare}
+use Rattle.walk_model.proofs.places.Shapes.{holds_below}
+use Rattle.language_ties.proofs.with_bodies.BodyStatements.{is_body_by_role, program_bodies}
 
 -- whether `var` declares in the scope of a node of the kind
 abbrev takes : AstType → Bool
@@ -135,6 +136,13 @@ class_makers false false x es h k = refl
 class_makers true b x es h k = absurd cc
 class_makers false true x es h k = absurd cc
 
+with_makers : (a b : Bool) (x : Node) (es : List Environment) → cond b a (not a) ≡ true
+    → makers (cond b (record { kind = environment.Object; maker = x.node_id } ∷ []) [] ++ es) ≡ cond (a || false) (record { node = x.node_id; takes_variables = false } ∷ makers es) (makers es)
+with_makers true true x es h = refl
+with_makers true false x es h = absurd cc
+with_makers false true x es h = absurd cc
+with_makers false false x es h = refl
+
 no_decorator : (k : AstType) → is_ecmascript_kind k ≡ true → same_kind k kind.Decorator ≡ false
 no_decorator k h = elim (cases_Bool (same_kind k kind.Decorator)) [
   | inl e ↦ (let q : is_ecmascript_kind kind.Decorator ≡ true = subst (λ x. is_ecmascript_kind x ≡ true) (kind_is k kind.Decorator e) h in absurd cc)
@@ -142,14 +150,14 @@ no_decorator k h = elim (cases_Bool (same_kind k kind.Decorator)) [
 ]
 
 made_makers : (k : AstType) (r : Role) (x child : Node) (es : List Environment) → is_ecmascript_kind k ≡ true → is_ecmascript_kind child.kind ≡ true → same_role r role.Decorators ≡ false → is_case_by_role k r child.kind ≡ true
-    → same_kind k kind.WithStatement ≡ false → makers (made_by k x child ++ es) ≡ with_maker k r x (makers es)
+    → is_body_by_role k r child.kind child.text ≡ true → makers (made_by k x child ++ es) ≡ with_maker k r x (makers es)
 made_makers kind.Program r x child es h c d s w = refl
 made_makers kind.Function r x child es h c d s w = function_makers (not (is_outside_body child) && has_parameter_expressions x) x es
 made_makers kind.ArrowFunctionExpression r x child es h c d s w = arrow_makers (not (is_outside_body child) && has_parameter_expressions x) x es
 made_makers kind.SwitchStatement r x child es h c d s w = case_makers (same_role r role.Cases) (is kind.SwitchCase child) x es s
 made_makers kind.IfStatement r x child es h c d s w = no_maker (is kind.Function child && is_statement child) child es
 made_makers kind.Class r x child es h c d s w = class_makers (same_role r role.Decorators) (is kind.Decorator child) x es d (no_decorator child.kind c)
-made_makers kind.WithStatement r x child es h c d s w = absurd cc
+made_makers kind.WithStatement r x child es h c d s w = with_makers (same_role r role.Body) (is_body_of_with child) x es w
 made_makers kind.TSNamespaceDeclaration r x child es h c d s w = absurd cc
 made_makers kind.TSExternalModuleDeclaration r x child es h c d s w = absurd cc
 made_makers kind.TSGlobalDeclaration r x child es h c d s w = absurd cc
@@ -171,6 +179,7 @@ record IsFitChild (p : Place) (r : Role) (node : Node) : Type 0 where
   own : is_ecmascript_kind node.kind ≡ true
   undecorated : same_role r role.Decorators ≡ false
   case : is_case_by_role p.node.kind r node.kind ≡ true
+  body : is_body_by_role p.node.kind r node.kind node.text ≡ true
 
 -- the child's chain, where its parent's scope is open if the child is inside
 module _ (p : Place) (r : Role) (node : Node) (fit : IsFitChild p r node) where
@@ -192,13 +201,9 @@ module _ (p : Place) (r : Role) (node : Node) (fit : IsFitChild p r node) where
       subst (λ b. map maker_of_scope (cond b (outside p.chain) (child_scopes p r own)) ≡ with_maker p.node.kind r p.node (map maker_of_scope p.chain)) (sym q) (within_makers own is_open o)
 
   child_has : (own : Option OpenScope) (cursor : ℕ) → (is_inside p.node.kind r ≡ true → own ≡ None → ⊥) → OwnMaker p own → HasItsEnvironments p → HasItsEnvironments (child_place p own cursor r node)
-  child_has own cursor is_open o h = λ w. go (is kind.WithStatement p.node) refl w
-    where
-      go : (b : Bool) → is kind.WithStatement p.node ≡ b → (b || in_with_under p.path) ≡ false → map maker_of_scope (child_place p own cursor r node).chain ≡ makers (made_by p.node.kind p.node node ++ environments p.node p.path)
-      go true e w = absurd cc
-      go false e w =
-          chain_makers own cursor is_open o ∙ ap (with_maker p.node.kind r p.node) (h w)
-          ∙ sym (made_makers p.node.kind r p.node node (environments p.node p.path) fit.parent fit.own fit.undecorated fit.case e)
+  child_has own cursor is_open o h =
+      chain_makers own cursor is_open o ∙ ap (with_maker p.node.kind r p.node) h
+      ∙ sym (made_makers p.node.kind r p.node node (environments p.node p.path) fit.parent fit.own fit.undecorated fit.case fit.body)
 
 -- what is known of a place
 pub record IsKnown (p : Place) : Type 0 where
@@ -221,20 +226,22 @@ each_map P Q f (s ∷ ss) h = (f s h.0, each_map P Q f ss h.1)
 not_empty : {A : Type 0} (x : A) (xs : List A) → x ∷ xs ≡ [] → ⊥
 not_empty x xs e = absurd cc
 
-known_steps : (p : Place) (own : Option OpenScope) (n cursor : ℕ) (f : Forest) → IsKnown p → is_ecmascript_forest f ≡ true → cases_stand p.node.kind f ≡ true → OwnMaker p own → EachStep KnownAt (steps_below p own n cursor f)
-known_steps p own n cursor nothing k e c o = last_case (EachStep KnownAt) p own n tt (tt, (tt, tt))
-known_steps p own n cursor (tree r k2 span text marks below id after) k e c o =
+known_steps : (p : Place) (own : Option OpenScope) (n cursor : ℕ) (f : Forest) → IsKnown p → is_ecmascript_forest f ≡ true → cases_stand p.node.kind f ≡ true → holds_below is_body_by_role p.node.kind f ≡ true → OwnMaker p own → EachStep KnownAt (steps_below p own n cursor f)
+known_steps p own n cursor nothing k e c b o = last_case (EachStep KnownAt) p own n tt (tt, (tt, tt))
+known_steps p own n cursor (tree r k2 span text marks below id after) k e c b o =
     let node : Node = record { kind = k2; span = span; text = text; marks = marks; children = below; node_id = id } in
     let turn : Turn = turn_at p own n cursor r node after in
     let first : ((is_ecmascript_kind k2 && not (same_role r role.Decorators)) && (not (has_foreign_mark marks) && not (is_foreign_text text))) ≡ true = and_first _ (is_ecmascript_forest below && is_ecmascript_forest after) e in
     let here : (is_ecmascript_kind k2 && not (same_role r role.Decorators)) ≡ true = and_first _ (not (has_foreign_mark marks) && not (is_foreign_text text)) first in
     let forests : (is_ecmascript_forest below && is_ecmascript_forest after) ≡ true = and_second _ (is_ecmascript_forest below && is_ecmascript_forest after) e in
     let cases : (cases_stand k2 below && cases_stand p.node.kind after) ≡ true = and_second (is_case_by_role p.node.kind r k2) (cases_stand k2 below && cases_stand p.node.kind after) c in
+    let bodies : (holds_below is_body_by_role k2 below && holds_below is_body_by_role p.node.kind after) ≡ true = and_second (is_body_by_role p.node.kind r k2 text) (holds_below is_body_by_role k2 below && holds_below is_body_by_role p.node.kind after) b in
     let fit : IsFitChild p r node = record {
       parent = k.ecmascript;
       own = and_first (is_ecmascript_kind k2) (not (same_role r role.Decorators)) here;
       undecorated = not-true (same_role r role.Decorators) (and_second (is_ecmascript_kind k2) (not (same_role r role.Decorators)) here);
       case = and_first (is_case_by_role p.node.kind r k2) (cases_stand k2 below && cases_stand p.node.kind after) c;
+      body = and_first (is_body_by_role p.node.kind r k2 text) (holds_below is_body_by_role k2 below && holds_below is_body_by_role p.node.kind after) b;
     } in
     let own_is : OwnMaker p turn.scope = own_maker p r own n k.ecmascript o in
     let child_is : IsKnown turn.child = record {
@@ -245,9 +252,9 @@ known_steps p own n cursor (tree r k2 span text marks below id after) k e c o =
     } in
     each_of_turn KnownAt turn (record {
       before = opening_case (EachStep KnownAt) p r own n tt (tt, tt);
-      whole = each_of_node KnownAt turn.child turn.below child_is (known_steps turn.child None turn.next turn.inner below child_is (and_first (is_ecmascript_forest below) (is_ecmascript_forest after) forests) (and_first (cases_stand k2 below) (cases_stand p.node.kind after) cases) tt) tt;
+      whole = each_of_node KnownAt turn.child turn.below child_is (known_steps turn.child None turn.next turn.inner below child_is (and_first (is_ecmascript_forest below) (is_ecmascript_forest after) forests) (and_first (cases_stand k2 below) (cases_stand p.node.kind after) cases) (and_first (holds_below is_body_by_role k2 below) (holds_below is_body_by_role p.node.kind after) bodies) tt) tt;
       behind = ending_case (EachStep KnownAt) p r turn.scope after tt (λ s. (tt, tt)) (λ s. (tt, tt)) (λ s. (tt, (tt, tt)));
-      others = known_steps p turn.scope turn.rest turn.past after k (and_second (is_ecmascript_forest below) (is_ecmascript_forest after) forests) (and_second (cases_stand k2 below) (cases_stand p.node.kind after) cases) own_is;
+      others = known_steps p turn.scope turn.rest turn.past after k (and_second (is_ecmascript_forest below) (is_ecmascript_forest after) forests) (and_second (cases_stand k2 below) (cases_stand p.node.kind after) cases) (and_second (holds_below is_body_by_role k2 below) (holds_below is_body_by_role p.node.kind after) bodies) own_is;
     })
 
 -- in a program of ECMAScript without a fault
@@ -257,8 +264,8 @@ known_program p h e =
     let n : ℕ = on_entering p.root.kind 0 in
     let below : List Step = steps_below root None 0 n p.root.children in
     let is_program : p.root.kind ≡ kind.Program = (has_form p h).root in
-    let known : IsKnown root = record { round = λ w. refl; ecmascript = subst (λ k. is_ecmascript_kind k ≡ true) (sym is_program) refl; rooted = λ q. is_program; whole = and_false (is kind.BindingRestElement p.root) } in
-    each_of_node KnownAt root below known (known_steps root None 0 n p.root.children known (and_second (not (is_typescript p.source_type)) (is_ecmascript_forest p.root.children) e) (program_cases p h) tt) tt
+    let known : IsKnown root = record { round = refl; ecmascript = subst (λ k. is_ecmascript_kind k ≡ true) (sym is_program) refl; rooted = λ q. is_program; whole = and_false (is kind.BindingRestElement p.root) } in
+    each_of_node KnownAt root below known (known_steps root None 0 n p.root.children known (and_second (not (is_typescript p.source_type)) (is_ecmascript_forest p.root.children) e) (program_cases p h) (program_bodies p h) tt) tt
 
 has_at : (st : Step) → KnownAt st → HasThem st
 has_at (entering p) k = k.round

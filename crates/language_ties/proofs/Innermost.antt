@@ -3,14 +3,13 @@ use Rattle.std.proofs.Common.{◌≡◌, ℕ, List, [], ◌∷◌, ◌++◌, Opt
 use Rattle.semantic_kinds.specs.Kinds.{same_kind}
 use Rattle.semantic_kinds.specs.declared.kind.AstType.{AstType}
 use Rattle.semantic_kinds.specs.declared.kind.AstType.TheVariants as kind
-use Rattle.semantic_kinds.specs.declared.role.Role.TheVariants as role
-use Rattle.semantic_tree.specs.Views.{is, is_child_in}
+use Rattle.semantic_tree.specs.Views.{is}
 use Rattle.semantic_tree.specs.declared.node.Node.{Node}
 use Rattle.semantic_model.specs.Binder.{is_statement, is_var}
 use Rattle.semantic_model.specs.Declaration.{first_with, passed_before, route_from, outward_to}
 use Rattle.semantic_model.specs.Place as place
 use Rattle.semantic_model.specs.Place.{OpenScope}
-use Rattle.language_ties.specs.Environments.{Environment, is_made_for, is_outside_body, has_parameter_expressions, made_by, environments, innermost, takes_variables, first_taking, environment_or, variable_environment}
+use Rattle.language_ties.specs.Environments.{Environment, is_made_for, is_outside_body, has_parameter_expressions, is_body_of_with, made_by, environments, innermost, takes_variables, first_taking, environment_or, variable_environment}
 use Rattle.language_ties.specs.Scopes.{Maker, maker_of_scope, maker_of_environment, makers}
 use Rattle.language_ties.specs.declared.environment_kind.EnvironmentKind.{EnvironmentKind}
 use Rattle.language_ties.specs.declared.environment_kind.EnvironmentKind.TheVariants as environment
@@ -27,10 +26,10 @@ abbrev first_taker : List Maker → Option ℕ
 first_taker [] = None
 first_taker (m ∷ ms) = cond m.takes_variables (Some m.node) (first_taker ms)
 
-abbrev maker_of : Environment → ℕ
+abbrev pub maker_of : Environment → ℕ
 maker_of e = e.maker
 
-abbrev opener_of : OpenScope → ℕ
+abbrev pub opener_of : OpenScope → ℕ
 opener_of s = s.opener
 
 -- ---- scopes
@@ -109,7 +108,7 @@ inner child (x ∷ path) p = go x.kind refl p (λ q. inner x path q)
     go kind.ForOfStatement e q later = refl
     go kind.CatchClause e q later = refl
     go kind.Class e q later = class_inner (is kind.Decorator child) x (environments x path) (further kind.Class e refl later)
-    go kind.WithStatement e q later = object_inner (is_child_in role.Body x child) x (environments x path) (further kind.WithStatement e refl later)
+    go kind.WithStatement e q later = object_inner (is_body_of_with child) x (environments x path) (further kind.WithStatement e refl later)
     go _ e q later = further _ e refl later
 
 abbrev IsTaker : List Environment → Type 0
@@ -151,10 +150,14 @@ taker child (x ∷ path) = go x.kind (taker x path)
     go kind.SwitchStatement h = block_taker (is kind.SwitchCase child) x (environments x path) h
     go kind.IfStatement h = if_taker (is kind.Function child && is_statement child) child (environments x path) h
     go kind.Class h = class_taker (is kind.Decorator child) x (environments x path) h
-    go kind.WithStatement h = object_taker (is_child_in role.Body x child) x (environments x path) h
+    go kind.WithStatement h = object_taker (is_body_of_with child) x (environments x path) h
     go _ h = h
 
 -- ---- both
+
+-- where the first scope is that takes variables, there the first environment is
+pub takers_made : (chain : List OpenScope) (child : Node) (path : List Node) → map maker_of_scope chain ≡ makers (environments child path) → option_map opener_of (first_with is_var chain) ≡ option_map maker_of (first_taking (environments child path))
+takers_made chain child path same = first_scope chain ∙ ap first_taker same ∙ sym (taker child path)
 
 module _ (chain : List OpenScope) (child : Node) (path : List Node) (same : map maker_of_scope chain ≡ makers (environments child path)) (plain : IsPlain child path) where
   pub innermost_made : maker_of_scope (place.innermost chain) ≡ maker_of_environment (innermost (environments child path))
@@ -167,4 +170,4 @@ module _ (chain : List OpenScope) (child : Node) (path : List Node) (same : map 
   target_made (Some s) None e = absurd cc
 
   pub variables_made : (outward_to is_var chain).target.opener ≡ (variable_environment (environments child path)).maker
-  variables_made = target_made (first_with is_var chain) (first_taking (environments child path)) (first_scope chain ∙ ap first_taker same ∙ sym (taker child path))
+  variables_made = target_made (first_with is_var chain) (first_taking (environments child path)) (takers_made chain child path same)

@@ -1,9 +1,11 @@
-pub mod ProgramTrees
 pub mod Programs
 pub mod PartingPrograms
 pub mod Rows
+pub mod MovedPrograms
 pub mod MisplacedFunctions
+pub mod clashes
 pub mod SwitchShape
+pub mod with_bodies
 pub mod EnvironmentsRound
 pub mod Innermost
 pub mod DeclaredAsBound
@@ -18,3 +20,4 @@ pub mod caught
 pub mod agree
 pub mod headers
 pub mod tangled
+pub mod moved

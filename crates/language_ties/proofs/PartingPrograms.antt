@@ -4,91 +4,29 @@ use Rattle.semantic_syntax.specs.declared.source_type.Goal.TheVariants as goal
 use Rattle.semantic_syntax.specs.declared.source_type.Lang.TheVariants as lang
 use Rattle.semantic_kinds.specs.declared.kind.AstType.TheVariants as kind
 use Rattle.semantic_kinds.specs.declared.role.Role.TheVariants as role
-use Rattle.semantic_kinds.specs.declared.mark.Mark.TheVariants as mark
 use Rattle.semantic_tree.specs.Tree.{Tree}
-use Rattle.language_ties.proofs.ProgramTrees.{marked, node, program}
-
--- `{ function f() {} } { function f() {} } f`
-abbrev pub two_blocks : Tree
-two_blocks =
-    program goal.Script lang.Js
-    (node role.Body kind.BlockStatement []
-    (node role.Body kind.Function (codes "declaration")
-    (node role.Id kind.BindingIdentifier (codes "f") []
-    ∷ node role.Params kind.FormalParameters (codes "formal") []
-    ∷ node role.Body kind.FunctionBody [] []
-    ∷ [])
-    ∷ [])
-    ∷ node role.Body kind.BlockStatement []
-    (node role.Body kind.Function (codes "declaration")
-    (node role.Id kind.BindingIdentifier (codes "f") []
-    ∷ node role.Params kind.FormalParameters (codes "formal") []
-    ∷ node role.Body kind.FunctionBody [] []
-    ∷ [])
-    ∷ [])
-    ∷ node role.Body kind.ExpressionStatement []
-    (node role.Expression kind.IdentifierReference (codes "f") []
-    ∷ [])
-    ∷ [])
+use Rattle.tangle_model.proofs.ProgramTrees.{node, program, binding, block, catch_clause, function, in_parentheses, mention, named_expression, number, parameter, statement, variable, with_block}
 
 -- `(function f() { f; try {} catch (f) { var f } })`
 abbrev pub own_name_and_catch : Tree
 own_name_and_catch =
     program goal.Script lang.Js
-    (node role.Body kind.ExpressionStatement []
-    (node role.Expression kind.ParenthesizedExpression []
-    (node role.Expression kind.Function (codes "expression")
-    (node role.Id kind.BindingIdentifier (codes "f") []
-    ∷ node role.Params kind.FormalParameters (codes "formal") []
-    ∷ node role.Body kind.FunctionBody []
-    (node role.Body kind.ExpressionStatement []
-    (node role.Expression kind.IdentifierReference (codes "f") []
-    ∷ [])
+    (statement
+    (in_parentheses role.Expression
+    (named_expression role.Expression (codes "f") []
+    (mention (codes "f")
     ∷ node role.Body kind.TryStatement []
-    (node role.Block kind.BlockStatement [] []
-    ∷ node role.Handler kind.CatchClause []
-    (node role.Param kind.CatchParameter []
-    (node role.Pattern kind.BindingIdentifier (codes "f") []
-    ∷ [])
-    ∷ node role.Body kind.BlockStatement []
-    (node role.Body kind.VariableDeclaration (codes "var")
-    (node role.Declarators kind.VariableDeclarator []
-    (node role.Id kind.BindingIdentifier (codes "f") []
-    ∷ [])
-    ∷ [])
-    ∷ [])
-    ∷ [])
-    ∷ [])
-    ∷ [])
-    ∷ [])
-    ∷ [])
-    ∷ [])
+    (block role.Block [] ∷ catch_clause role.Handler (binding role.Pattern (codes "f")) (variable (codes "var") (codes "f") ∷ []) ∷ [])
+    ∷ [])))
     ∷ [])
 
 -- `(function f() { f; { function f() {} } })`
 abbrev pub own_name_and_block : Tree
 own_name_and_block =
     program goal.Script lang.Js
-    (node role.Body kind.ExpressionStatement []
-    (node role.Expression kind.ParenthesizedExpression []
-    (node role.Expression kind.Function (codes "expression")
-    (node role.Id kind.BindingIdentifier (codes "f") []
-    ∷ node role.Params kind.FormalParameters (codes "formal") []
-    ∷ node role.Body kind.FunctionBody []
-    (node role.Body kind.ExpressionStatement []
-    (node role.Expression kind.IdentifierReference (codes "f") []
-    ∷ [])
-    ∷ node role.Body kind.BlockStatement []
-    (node role.Body kind.Function (codes "declaration")
-    (node role.Id kind.BindingIdentifier (codes "f") []
-    ∷ node role.Params kind.FormalParameters (codes "formal") []
-    ∷ node role.Body kind.FunctionBody [] []
-    ∷ [])
-    ∷ [])
-    ∷ [])
-    ∷ [])
-    ∷ [])
-    ∷ [])
+    (statement
+    (in_parentheses role.Expression
+    (named_expression role.Expression (codes "f") [] (mention (codes "f") ∷ block role.Body (function role.Body (codes "f") [] [] ∷ []) ∷ [])))
     ∷ [])
 
 -- `try {} catch (a) { { function a() {} a } }`
@@ -96,24 +34,9 @@ abbrev pub catch_and_block : Tree
 catch_and_block =
     program goal.Script lang.Js
     (node role.Body kind.TryStatement []
-    (node role.Block kind.BlockStatement [] []
-    ∷ node role.Handler kind.CatchClause []
-    (node role.Param kind.CatchParameter []
-    (node role.Pattern kind.BindingIdentifier (codes "a") []
-    ∷ [])
-    ∷ node role.Body kind.BlockStatement []
-    (node role.Body kind.BlockStatement []
-    (node role.Body kind.Function (codes "declaration")
-    (node role.Id kind.BindingIdentifier (codes "a") []
-    ∷ node role.Params kind.FormalParameters (codes "formal") []
-    ∷ node role.Body kind.FunctionBody [] []
-    ∷ [])
-    ∷ node role.Body kind.ExpressionStatement []
-    (node role.Expression kind.IdentifierReference (codes "a") []
-    ∷ [])
-    ∷ [])
-    ∷ [])
-    ∷ [])
+    (block role.Block []
+    ∷ catch_clause role.Handler (binding role.Pattern (codes "a"))
+    (block role.Body (function role.Body (codes "a") [] [] ∷ mention (codes "a") ∷ []) ∷ [])
     ∷ [])
     ∷ [])
 
@@ -121,55 +44,19 @@ catch_and_block =
 abbrev pub let_and_if : Tree
 let_and_if =
     program goal.Script lang.Js
-    (node role.Body kind.VariableDeclaration (codes "let")
-    (node role.Declarators kind.VariableDeclarator []
-    (node role.Id kind.BindingIdentifier (codes "b") []
-    ∷ [])
-    ∷ [])
-    ∷ node role.Body kind.BlockStatement []
-    (node role.Body kind.IfStatement []
-    (marked (mark.Decimal ∷ []) role.Test kind.NumericLiteral (codes "1") []
-    ∷ node role.Consequent kind.Function (codes "declaration")
-    (node role.Id kind.BindingIdentifier (codes "b") []
-    ∷ node role.Params kind.FormalParameters (codes "formal") []
-    ∷ node role.Body kind.FunctionBody [] []
-    ∷ [])
-    ∷ [])
-    ∷ node role.Body kind.ExpressionStatement []
-    (node role.Expression kind.IdentifierReference (codes "b") []
-    ∷ [])
-    ∷ [])
+    (variable (codes "let") (codes "b")
+    ∷ block role.Body
+    (node role.Body kind.IfStatement [] (number role.Test (codes "1") ∷ function role.Consequent (codes "b") [] [] ∷ []) ∷ mention (codes "b") ∷ [])
     ∷ [])
 
 -- `function f(a) { { if (1) function a() {} a } a }`
 abbrev pub if_and_parameter : Tree
 if_and_parameter =
     program goal.Script lang.Js
-    (node role.Body kind.Function (codes "declaration")
-    (node role.Id kind.BindingIdentifier (codes "f") []
-    ∷ node role.Params kind.FormalParameters (codes "formal")
-    (node role.Items kind.FormalParameter []
-    (node role.Pattern kind.BindingIdentifier (codes "a") []
-    ∷ [])
-    ∷ [])
-    ∷ node role.Body kind.FunctionBody []
-    (node role.Body kind.BlockStatement []
-    (node role.Body kind.IfStatement []
-    (marked (mark.Decimal ∷ []) role.Test kind.NumericLiteral (codes "1") []
-    ∷ node role.Consequent kind.Function (codes "declaration")
-    (node role.Id kind.BindingIdentifier (codes "a") []
-    ∷ node role.Params kind.FormalParameters (codes "formal") []
-    ∷ node role.Body kind.FunctionBody [] []
-    ∷ [])
-    ∷ [])
-    ∷ node role.Body kind.ExpressionStatement []
-    (node role.Expression kind.IdentifierReference (codes "a") []
-    ∷ [])
-    ∷ [])
-    ∷ node role.Body kind.ExpressionStatement []
-    (node role.Expression kind.IdentifierReference (codes "a") []
-    ∷ [])
-    ∷ [])
+    (function role.Body (codes "f") (parameter (codes "a") ∷ [])
+    (block role.Body
+    (node role.Body kind.IfStatement [] (number role.Test (codes "1") ∷ function role.Consequent (codes "a") [] [] ∷ []) ∷ mention (codes "a") ∷ [])
+    ∷ mention (codes "a")
     ∷ [])
     ∷ [])
 
@@ -178,104 +65,30 @@ abbrev pub catch_and_var : Tree
 catch_and_var =
     program goal.Script lang.Js
     (node role.Body kind.TryStatement []
-    (node role.Block kind.BlockStatement [] []
-    ∷ node role.Handler kind.CatchClause []
-    (node role.Param kind.CatchParameter []
-    (node role.Pattern kind.BindingIdentifier (codes "e") []
+    (block role.Block []
+    ∷ catch_clause role.Handler (binding role.Pattern (codes "e")) (variable (codes "var") (codes "e") ∷ mention (codes "e") ∷ [])
     ∷ [])
-    ∷ node role.Body kind.BlockStatement []
-    (node role.Body kind.VariableDeclaration (codes "var")
-    (node role.Declarators kind.VariableDeclarator []
-    (node role.Id kind.BindingIdentifier (codes "e") []
-    ∷ [])
-    ∷ [])
-    ∷ node role.Body kind.ExpressionStatement []
-    (node role.Expression kind.IdentifierReference (codes "e") []
-    ∷ [])
-    ∷ [])
-    ∷ [])
-    ∷ [])
-    ∷ node role.Body kind.ExpressionStatement []
-    (node role.Expression kind.IdentifierReference (codes "e") []
-    ∷ [])
+    ∷ mention (codes "e")
     ∷ [])
 
 -- `var a; with (a) { a }`
 abbrev pub in_with : Tree
-in_with =
-    program goal.Script lang.Js
-    (node role.Body kind.VariableDeclaration (codes "var")
-    (node role.Declarators kind.VariableDeclarator []
-    (node role.Id kind.BindingIdentifier (codes "a") []
-    ∷ [])
-    ∷ [])
-    ∷ node role.Body kind.WithStatement []
-    (node role.Object kind.IdentifierReference (codes "a") []
-    ∷ node role.Body kind.BlockStatement []
-    (node role.Body kind.ExpressionStatement []
-    (node role.Expression kind.IdentifierReference (codes "a") []
-    ∷ [])
-    ∷ [])
-    ∷ [])
-    ∷ [])
+in_with = program goal.Script lang.Js (variable (codes "var") (codes "a") ∷ with_block (codes "a") (mention (codes "a") ∷ []) ∷ [])
 
 -- `var a; { function a() {} a } a`
 abbrev pub block_and_var : Tree
 block_and_var =
     program goal.Script lang.Js
-    (node role.Body kind.VariableDeclaration (codes "var")
-    (node role.Declarators kind.VariableDeclarator []
-    (node role.Id kind.BindingIdentifier (codes "a") []
-    ∷ [])
-    ∷ [])
-    ∷ node role.Body kind.BlockStatement []
-    (node role.Body kind.Function (codes "declaration")
-    (node role.Id kind.BindingIdentifier (codes "a") []
-    ∷ node role.Params kind.FormalParameters (codes "formal") []
-    ∷ node role.Body kind.FunctionBody [] []
-    ∷ [])
-    ∷ node role.Body kind.ExpressionStatement []
-    (node role.Expression kind.IdentifierReference (codes "a") []
-    ∷ [])
-    ∷ [])
-    ∷ node role.Body kind.ExpressionStatement []
-    (node role.Expression kind.IdentifierReference (codes "a") []
-    ∷ [])
+    (variable (codes "var") (codes "a")
+    ∷ block role.Body (function role.Body (codes "a") [] [] ∷ mention (codes "a") ∷ [])
+    ∷ mention (codes "a")
     ∷ [])
 
 -- `{ let a; { var a } } { let a; { var a } } a`
 abbrev pub clash : Tree
 clash =
     program goal.Script lang.Js
-    (node role.Body kind.BlockStatement []
-    (node role.Body kind.VariableDeclaration (codes "let")
-    (node role.Declarators kind.VariableDeclarator []
-    (node role.Id kind.BindingIdentifier (codes "a") []
-    ∷ [])
-    ∷ [])
-    ∷ node role.Body kind.BlockStatement []
-    (node role.Body kind.VariableDeclaration (codes "var")
-    (node role.Declarators kind.VariableDeclarator []
-    (node role.Id kind.BindingIdentifier (codes "a") []
-    ∷ [])
-    ∷ [])
-    ∷ [])
-    ∷ [])
-    ∷ node role.Body kind.BlockStatement []
-    (node role.Body kind.VariableDeclaration (codes "let")
-    (node role.Declarators kind.VariableDeclarator []
-    (node role.Id kind.BindingIdentifier (codes "a") []
-    ∷ [])
-    ∷ [])
-    ∷ node role.Body kind.BlockStatement []
-    (node role.Body kind.VariableDeclaration (codes "var")
-    (node role.Declarators kind.VariableDeclarator []
-    (node role.Id kind.BindingIdentifier (codes "a") []
-    ∷ [])
-    ∷ [])
-    ∷ [])
-    ∷ [])
-    ∷ node role.Body kind.ExpressionStatement []
-    (node role.Expression kind.IdentifierReference (codes "a") []
-    ∷ [])
+    (block role.Body (variable (codes "let") (codes "a") ∷ block role.Body (variable (codes "var") (codes "a") ∷ []) ∷ [])
+    ∷ block role.Body (variable (codes "let") (codes "a") ∷ block role.Body (variable (codes "var") (codes "a") ∷ []) ∷ [])
+    ∷ mention (codes "a")
     ∷ [])

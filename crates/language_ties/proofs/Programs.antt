@@ -6,211 +6,74 @@ use Rattle.semantic_kinds.specs.declared.kind.AstType.TheVariants as kind
 use Rattle.semantic_kinds.specs.declared.role.Role.TheVariants as role
 use Rattle.semantic_kinds.specs.declared.mark.Mark.TheVariants as mark
 use Rattle.semantic_tree.specs.Tree.{Tree}
-use Rattle.language_ties.proofs.ProgramTrees.{marked, node, program}
+use Rattle.tangle_model.proofs.ProgramTrees.{marked, node, program, binding, block, catch_clause, declarator, declared, defaulted, function, function_body, function_parts, in_parentheses, mention, named_expression, number, parameter, reference, statement, variable}
 
 -- `{ function f() {} f } f`
 abbrev pub one_block : Tree
-one_block =
-    program goal.Script lang.Js
-    (node role.Body kind.BlockStatement []
-    (node role.Body kind.Function (codes "declaration")
-    (node role.Id kind.BindingIdentifier (codes "f") []
-    ∷ node role.Params kind.FormalParameters (codes "formal") []
-    ∷ node role.Body kind.FunctionBody [] []
-    ∷ [])
-    ∷ node role.Body kind.ExpressionStatement []
-    (node role.Expression kind.IdentifierReference (codes "f") []
-    ∷ [])
-    ∷ [])
-    ∷ node role.Body kind.ExpressionStatement []
-    (node role.Expression kind.IdentifierReference (codes "f") []
-    ∷ [])
-    ∷ [])
+one_block = program goal.Script lang.Js (block role.Body (function role.Body (codes "f") [] [] ∷ mention (codes "f") ∷ []) ∷ mention (codes "f") ∷ [])
 
 -- `{ let f; { function f() {} f } f } f`
 abbrev pub barred_block : Tree
 barred_block =
     program goal.Script lang.Js
-    (node role.Body kind.BlockStatement []
-    (node role.Body kind.VariableDeclaration (codes "let")
-    (node role.Declarators kind.VariableDeclarator []
-    (node role.Id kind.BindingIdentifier (codes "f") []
+    (block role.Body
+    (variable (codes "let") (codes "f")
+    ∷ block role.Body (function role.Body (codes "f") [] [] ∷ mention (codes "f") ∷ [])
+    ∷ mention (codes "f")
     ∷ [])
-    ∷ [])
-    ∷ node role.Body kind.BlockStatement []
-    (node role.Body kind.Function (codes "declaration")
-    (node role.Id kind.BindingIdentifier (codes "f") []
-    ∷ node role.Params kind.FormalParameters (codes "formal") []
-    ∷ node role.Body kind.FunctionBody [] []
-    ∷ [])
-    ∷ node role.Body kind.ExpressionStatement []
-    (node role.Expression kind.IdentifierReference (codes "f") []
-    ∷ [])
-    ∷ [])
-    ∷ node role.Body kind.ExpressionStatement []
-    (node role.Expression kind.IdentifierReference (codes "f") []
-    ∷ [])
-    ∷ [])
-    ∷ node role.Body kind.ExpressionStatement []
-    (node role.Expression kind.IdentifierReference (codes "f") []
-    ∷ [])
+    ∷ mention (codes "f")
     ∷ [])
 
 -- `"use strict"; { function f() {} f } f`
 abbrev pub strict_block : Tree
 strict_block =
     program goal.Script lang.Js
-    (node role.Directives kind.Directive (codes "use strict")
-    (node role.Expression kind.StringLiteral (codes "use strict") []
-    ∷ [])
-    ∷ node role.Body kind.BlockStatement []
-    (node role.Body kind.Function (codes "declaration")
-    (node role.Id kind.BindingIdentifier (codes "f") []
-    ∷ node role.Params kind.FormalParameters (codes "formal") []
-    ∷ node role.Body kind.FunctionBody [] []
-    ∷ [])
-    ∷ node role.Body kind.ExpressionStatement []
-    (node role.Expression kind.IdentifierReference (codes "f") []
-    ∷ [])
-    ∷ [])
-    ∷ node role.Body kind.ExpressionStatement []
-    (node role.Expression kind.IdentifierReference (codes "f") []
-    ∷ [])
+    (node role.Directives kind.Directive (codes "use strict") (node role.Expression kind.StringLiteral (codes "use strict") [] ∷ [])
+    ∷ block role.Body (function role.Body (codes "f") [] [] ∷ mention (codes "f") ∷ [])
+    ∷ mention (codes "f")
     ∷ [])
 
 -- `function f(a = x, b = a) { var a, x; a; x } x`
 abbrev pub header_and_var : Tree
 header_and_var =
     program goal.Script lang.Js
-    (node role.Body kind.Function (codes "declaration")
-    (node role.Id kind.BindingIdentifier (codes "f") []
-    ∷ node role.Params kind.FormalParameters (codes "formal")
-    (node role.Items kind.FormalParameter []
-    (node role.Pattern kind.BindingIdentifier (codes "a") []
-    ∷ node role.Initializer kind.IdentifierReference (codes "x") []
+    (function role.Body (codes "f")
+    (defaulted (codes "a") (reference role.Initializer (codes "x")) ∷ defaulted (codes "b") (reference role.Initializer (codes "a")) ∷ [])
+    (node role.Body kind.VariableDeclaration (codes "var") (declarator (codes "a") ∷ declarator (codes "x") ∷ [])
+    ∷ mention (codes "a")
+    ∷ mention (codes "x")
     ∷ [])
-    ∷ node role.Items kind.FormalParameter []
-    (node role.Pattern kind.BindingIdentifier (codes "b") []
-    ∷ node role.Initializer kind.IdentifierReference (codes "a") []
-    ∷ [])
-    ∷ [])
-    ∷ node role.Body kind.FunctionBody []
-    (node role.Body kind.VariableDeclaration (codes "var")
-    (node role.Declarators kind.VariableDeclarator []
-    (node role.Id kind.BindingIdentifier (codes "a") []
-    ∷ [])
-    ∷ node role.Declarators kind.VariableDeclarator []
-    (node role.Id kind.BindingIdentifier (codes "x") []
-    ∷ [])
-    ∷ [])
-    ∷ node role.Body kind.ExpressionStatement []
-    (node role.Expression kind.IdentifierReference (codes "a") []
-    ∷ [])
-    ∷ node role.Body kind.ExpressionStatement []
-    (node role.Expression kind.IdentifierReference (codes "x") []
-    ∷ [])
-    ∷ [])
-    ∷ [])
-    ∷ node role.Body kind.ExpressionStatement []
-    (node role.Expression kind.IdentifierReference (codes "x") []
-    ∷ [])
+    ∷ mention (codes "x")
     ∷ [])
 
 -- `function f(a) { var a; a; { let a; a } }`
 abbrev pub parameter_and_var : Tree
 parameter_and_var =
     program goal.Script lang.Js
-    (node role.Body kind.Function (codes "declaration")
-    (node role.Id kind.BindingIdentifier (codes "f") []
-    ∷ node role.Params kind.FormalParameters (codes "formal")
-    (node role.Items kind.FormalParameter []
-    (node role.Pattern kind.BindingIdentifier (codes "a") []
-    ∷ [])
-    ∷ [])
-    ∷ node role.Body kind.FunctionBody []
-    (node role.Body kind.VariableDeclaration (codes "var")
-    (node role.Declarators kind.VariableDeclarator []
-    (node role.Id kind.BindingIdentifier (codes "a") []
-    ∷ [])
-    ∷ [])
-    ∷ node role.Body kind.ExpressionStatement []
-    (node role.Expression kind.IdentifierReference (codes "a") []
-    ∷ [])
-    ∷ node role.Body kind.BlockStatement []
-    (node role.Body kind.VariableDeclaration (codes "let")
-    (node role.Declarators kind.VariableDeclarator []
-    (node role.Id kind.BindingIdentifier (codes "a") []
-    ∷ [])
-    ∷ [])
-    ∷ node role.Body kind.ExpressionStatement []
-    (node role.Expression kind.IdentifierReference (codes "a") []
-    ∷ [])
-    ∷ [])
-    ∷ [])
-    ∷ [])
+    (function role.Body (codes "f") (parameter (codes "a") ∷ [])
+    (variable (codes "var") (codes "a") ∷ mention (codes "a") ∷ block role.Body (variable (codes "let") (codes "a") ∷ mention (codes "a") ∷ []) ∷ [])
     ∷ [])
 
 -- `(function f(a = f) { f; { let f; f } })`
 abbrev pub own_name : Tree
 own_name =
     program goal.Script lang.Js
-    (node role.Body kind.ExpressionStatement []
-    (node role.Expression kind.ParenthesizedExpression []
-    (node role.Expression kind.Function (codes "expression")
-    (node role.Id kind.BindingIdentifier (codes "f") []
-    ∷ node role.Params kind.FormalParameters (codes "formal")
-    (node role.Items kind.FormalParameter []
-    (node role.Pattern kind.BindingIdentifier (codes "a") []
-    ∷ node role.Initializer kind.IdentifierReference (codes "f") []
-    ∷ [])
-    ∷ [])
-    ∷ node role.Body kind.FunctionBody []
-    (node role.Body kind.ExpressionStatement []
-    (node role.Expression kind.IdentifierReference (codes "f") []
-    ∷ [])
-    ∷ node role.Body kind.BlockStatement []
-    (node role.Body kind.VariableDeclaration (codes "let")
-    (node role.Declarators kind.VariableDeclarator []
-    (node role.Id kind.BindingIdentifier (codes "f") []
-    ∷ [])
-    ∷ [])
-    ∷ node role.Body kind.ExpressionStatement []
-    (node role.Expression kind.IdentifierReference (codes "f") []
-    ∷ [])
-    ∷ [])
-    ∷ [])
-    ∷ [])
-    ∷ [])
-    ∷ [])
+    (statement
+    (in_parentheses role.Expression
+    (named_expression role.Expression (codes "f")
+    (defaulted (codes "a") (reference role.Initializer (codes "f")) ∷ [])
+    (mention (codes "f") ∷ block role.Body (variable (codes "let") (codes "f") ∷ mention (codes "f") ∷ []) ∷ [])))
     ∷ [])
 
 -- `(function f(a = f) { var f; f })`
 abbrev pub own_name_and_var : Tree
 own_name_and_var =
     program goal.Script lang.Js
-    (node role.Body kind.ExpressionStatement []
-    (node role.Expression kind.ParenthesizedExpression []
-    (node role.Expression kind.Function (codes "expression")
-    (node role.Id kind.BindingIdentifier (codes "f") []
-    ∷ node role.Params kind.FormalParameters (codes "formal")
-    (node role.Items kind.FormalParameter []
-    (node role.Pattern kind.BindingIdentifier (codes "a") []
-    ∷ node role.Initializer kind.IdentifierReference (codes "f") []
-    ∷ [])
-    ∷ [])
-    ∷ node role.Body kind.FunctionBody []
-    (node role.Body kind.VariableDeclaration (codes "var")
-    (node role.Declarators kind.VariableDeclarator []
-    (node role.Id kind.BindingIdentifier (codes "f") []
-    ∷ [])
-    ∷ [])
-    ∷ node role.Body kind.ExpressionStatement []
-    (node role.Expression kind.IdentifierReference (codes "f") []
-    ∷ [])
-    ∷ [])
-    ∷ [])
-    ∷ [])
-    ∷ [])
+    (statement
+    (in_parentheses role.Expression
+    (named_expression role.Expression (codes "f")
+    (defaulted (codes "a") (reference role.Initializer (codes "f")) ∷ [])
+    (variable (codes "var") (codes "f") ∷ mention (codes "f") ∷ [])))
     ∷ [])
 
 -- `class C extends (C) { [C]() { C } static { var a; a } } (class D { m() { D } }); D; C; a`
@@ -218,63 +81,32 @@ abbrev pub classes : Tree
 classes =
     program goal.Script lang.Js
     (node role.Body kind.Class (codes "declaration")
-    (node role.Id kind.BindingIdentifier (codes "C") []
-    ∷ node role.Heritage kind.ParenthesizedExpression []
-    (node role.Expression kind.IdentifierReference (codes "C") []
-    ∷ [])
+    (binding role.Id (codes "C")
+    ∷ in_parentheses role.Heritage (reference role.Expression (codes "C"))
     ∷ node role.Body kind.ClassBody []
     (marked (mark.Computed ∷ []) role.Body kind.MethodDefinition (codes "method")
-    (node role.Key kind.IdentifierReference (codes "C") []
+    (reference role.Key (codes "C")
     ∷ node role.Value kind.Function (codes "expression")
-    (node role.Params kind.FormalParameters (codes "unique") []
-    ∷ node role.Body kind.FunctionBody []
-    (node role.Body kind.ExpressionStatement []
-    (node role.Expression kind.IdentifierReference (codes "C") []
+    (node role.Params kind.FormalParameters (codes "unique") [] ∷ function_body (mention (codes "C") ∷ []) ∷ [])
+    ∷ [])
+    ∷ node role.Body kind.StaticBlock [] (variable (codes "var") (codes "a") ∷ mention (codes "a") ∷ [])
     ∷ [])
     ∷ [])
-    ∷ [])
-    ∷ [])
-    ∷ node role.Body kind.StaticBlock []
-    (node role.Body kind.VariableDeclaration (codes "var")
-    (node role.Declarators kind.VariableDeclarator []
-    (node role.Id kind.BindingIdentifier (codes "a") []
-    ∷ [])
-    ∷ [])
-    ∷ node role.Body kind.ExpressionStatement []
-    (node role.Expression kind.IdentifierReference (codes "a") []
-    ∷ [])
-    ∷ [])
-    ∷ [])
-    ∷ [])
-    ∷ node role.Body kind.ExpressionStatement []
-    (node role.Expression kind.ParenthesizedExpression []
+    ∷ statement
+    (in_parentheses role.Expression
     (node role.Expression kind.Class (codes "expression")
-    (node role.Id kind.BindingIdentifier (codes "D") []
+    (binding role.Id (codes "D")
     ∷ node role.Body kind.ClassBody []
     (node role.Body kind.MethodDefinition (codes "method")
     (node role.Key kind.IdentifierName (codes "m") []
     ∷ node role.Value kind.Function (codes "expression")
-    (node role.Params kind.FormalParameters (codes "unique") []
-    ∷ node role.Body kind.FunctionBody []
-    (node role.Body kind.ExpressionStatement []
-    (node role.Expression kind.IdentifierReference (codes "D") []
+    (node role.Params kind.FormalParameters (codes "unique") [] ∷ function_body (mention (codes "D") ∷ []) ∷ [])
     ∷ [])
     ∷ [])
-    ∷ [])
-    ∷ [])
-    ∷ [])
-    ∷ [])
-    ∷ [])
-    ∷ [])
-    ∷ node role.Body kind.ExpressionStatement []
-    (node role.Expression kind.IdentifierReference (codes "D") []
-    ∷ [])
-    ∷ node role.Body kind.ExpressionStatement []
-    (node role.Expression kind.IdentifierReference (codes "C") []
-    ∷ [])
-    ∷ node role.Body kind.ExpressionStatement []
-    (node role.Expression kind.IdentifierReference (codes "a") []
-    ∷ [])
+    ∷ [])))
+    ∷ mention (codes "D")
+    ∷ mention (codes "C")
+    ∷ mention (codes "a")
     ∷ [])
 
 -- `for (let a of a) { a; var b; } for (const a in b) a; a`
@@ -282,37 +114,13 @@ abbrev pub loops : Tree
 loops =
     program goal.Script lang.Js
     (node role.Body kind.ForOfStatement []
-    (node role.Left kind.VariableDeclaration (codes "let")
-    (node role.Declarators kind.VariableDeclarator []
-    (node role.Id kind.BindingIdentifier (codes "a") []
-    ∷ [])
-    ∷ [])
-    ∷ node role.Right kind.IdentifierReference (codes "a") []
-    ∷ node role.Body kind.BlockStatement []
-    (node role.Body kind.ExpressionStatement []
-    (node role.Expression kind.IdentifierReference (codes "a") []
-    ∷ [])
-    ∷ node role.Body kind.VariableDeclaration (codes "var")
-    (node role.Declarators kind.VariableDeclarator []
-    (node role.Id kind.BindingIdentifier (codes "b") []
-    ∷ [])
-    ∷ [])
-    ∷ [])
+    (declared role.Left (codes "let") (binding role.Id (codes "a") ∷ [])
+    ∷ reference role.Right (codes "a")
+    ∷ block role.Body (mention (codes "a") ∷ variable (codes "var") (codes "b") ∷ [])
     ∷ [])
     ∷ node role.Body kind.ForInStatement []
-    (node role.Left kind.VariableDeclaration (codes "const")
-    (node role.Declarators kind.VariableDeclarator []
-    (node role.Id kind.BindingIdentifier (codes "a") []
-    ∷ [])
-    ∷ [])
-    ∷ node role.Right kind.IdentifierReference (codes "b") []
-    ∷ node role.Body kind.ExpressionStatement []
-    (node role.Expression kind.IdentifierReference (codes "a") []
-    ∷ [])
-    ∷ [])
-    ∷ node role.Body kind.ExpressionStatement []
-    (node role.Expression kind.IdentifierReference (codes "a") []
-    ∷ [])
+    (declared role.Left (codes "const") (binding role.Id (codes "a") ∷ []) ∷ reference role.Right (codes "b") ∷ mention (codes "a") ∷ [])
+    ∷ mention (codes "a")
     ∷ [])
 
 -- `switch (a) { case a: let a; default: a }`
@@ -320,20 +128,10 @@ abbrev pub cases : Tree
 cases =
     program goal.Script lang.Js
     (node role.Body kind.SwitchStatement []
-    (node role.Discriminant kind.IdentifierReference (codes "a") []
+    (reference role.Discriminant (codes "a")
     ∷ node role.Cases kind.SwitchCase []
-    (node role.Test kind.IdentifierReference (codes "a") []
-    ∷ node role.Consequent kind.VariableDeclaration (codes "let")
-    (node role.Declarators kind.VariableDeclarator []
-    (node role.Id kind.BindingIdentifier (codes "a") []
-    ∷ [])
-    ∷ [])
-    ∷ [])
-    ∷ node role.Cases kind.SwitchCase []
-    (node role.Consequent kind.ExpressionStatement []
-    (node role.Expression kind.IdentifierReference (codes "a") []
-    ∷ [])
-    ∷ [])
+    (reference role.Test (codes "a") ∷ declared role.Consequent (codes "let") (binding role.Id (codes "a") ∷ []) ∷ [])
+    ∷ node role.Cases kind.SwitchCase [] (node role.Consequent kind.ExpressionStatement [] (reference role.Expression (codes "a") ∷ []) ∷ [])
     ∷ [])
     ∷ [])
 
@@ -342,120 +140,52 @@ abbrev pub catches : Tree
 catches =
     program goal.Script lang.Js
     (node role.Body kind.TryStatement []
-    (node role.Block kind.BlockStatement [] []
-    ∷ node role.Handler kind.CatchClause []
-    (node role.Param kind.CatchParameter []
-    (node role.Pattern kind.BindingIdentifier (codes "e") []
-    ∷ [])
-    ∷ node role.Body kind.BlockStatement []
-    (node role.Body kind.ExpressionStatement []
-    (node role.Expression kind.IdentifierReference (codes "e") []
-    ∷ [])
-    ∷ node role.Body kind.BlockStatement []
-    (node role.Body kind.VariableDeclaration (codes "var")
-    (node role.Declarators kind.VariableDeclarator []
-    (node role.Id kind.BindingIdentifier (codes "a") []
-    ∷ [])
-    ∷ [])
-    ∷ [])
-    ∷ [])
-    ∷ [])
+    (block role.Block []
+    ∷ catch_clause role.Handler (binding role.Pattern (codes "e"))
+    (mention (codes "e") ∷ block role.Body (variable (codes "var") (codes "a") ∷ []) ∷ [])
     ∷ [])
     ∷ node role.Body kind.TryStatement []
-    (node role.Block kind.BlockStatement [] []
-    ∷ node role.Handler kind.CatchClause []
-    (node role.Param kind.CatchParameter []
+    (block role.Block []
+    ∷ catch_clause role.Handler
     (node role.Pattern kind.ObjectPattern []
     (marked (mark.Shorthand ∷ []) role.Properties kind.BindingProperty []
     (node role.Key kind.IdentifierName (codes "b") []
-    ∷ node role.Value kind.AssignmentPattern []
-    (node role.Left kind.BindingIdentifier (codes "b") []
-    ∷ node role.Right kind.IdentifierReference (codes "c") []
-    ∷ [])
+    ∷ node role.Value kind.AssignmentPattern [] (binding role.Left (codes "b") ∷ reference role.Right (codes "c") ∷ [])
     ∷ [])
     ∷ marked (mark.Shorthand ∷ []) role.Properties kind.BindingProperty []
-    (node role.Key kind.IdentifierName (codes "c") []
-    ∷ node role.Value kind.BindingIdentifier (codes "c") []
+    (node role.Key kind.IdentifierName (codes "c") [] ∷ binding role.Value (codes "c") ∷ [])
+    ∷ []))
+    (mention (codes "b") ∷ mention (codes "c") ∷ [])
     ∷ [])
-    ∷ [])
-    ∷ [])
-    ∷ node role.Body kind.BlockStatement []
-    (node role.Body kind.ExpressionStatement []
-    (node role.Expression kind.IdentifierReference (codes "b") []
-    ∷ [])
-    ∷ node role.Body kind.ExpressionStatement []
-    (node role.Expression kind.IdentifierReference (codes "c") []
-    ∷ [])
-    ∷ [])
-    ∷ [])
-    ∷ [])
-    ∷ node role.Body kind.ExpressionStatement []
-    (node role.Expression kind.IdentifierReference (codes "a") []
-    ∷ [])
-    ∷ node role.Body kind.ExpressionStatement []
-    (node role.Expression kind.IdentifierReference (codes "b") []
-    ∷ [])
-    ∷ node role.Body kind.ExpressionStatement []
-    (node role.Expression kind.IdentifierReference (codes "e") []
-    ∷ [])
+    ∷ mention (codes "a")
+    ∷ mention (codes "b")
+    ∷ mention (codes "e")
     ∷ [])
 
 -- `(a => a)(); ((a, b = () => a) => { var a; a; c })(); let c`
 abbrev pub arrows : Tree
 arrows =
     program goal.Script lang.Js
-    (node role.Body kind.ExpressionStatement []
+    (statement
     (node role.Expression kind.CallExpression []
-    (node role.Callee kind.ParenthesizedExpression []
+    (in_parentheses role.Callee
+    (node role.Expression kind.ArrowFunctionExpression []
+    (node role.Params kind.FormalParameters (codes "arrow") (parameter (codes "a") ∷ []) ∷ reference role.Body (codes "a") ∷ []))
+    ∷ []))
+    ∷ statement
+    (node role.Expression kind.CallExpression []
+    (in_parentheses role.Callee
     (node role.Expression kind.ArrowFunctionExpression []
     (node role.Params kind.FormalParameters (codes "arrow")
-    (node role.Items kind.FormalParameter []
-    (node role.Pattern kind.BindingIdentifier (codes "a") []
+    (parameter (codes "a")
+    ∷ defaulted (codes "b")
+    (node role.Initializer kind.ArrowFunctionExpression []
+    (node role.Params kind.FormalParameters (codes "arrow") [] ∷ reference role.Body (codes "a") ∷ []))
     ∷ [])
-    ∷ [])
-    ∷ node role.Body kind.IdentifierReference (codes "a") []
-    ∷ [])
-    ∷ [])
-    ∷ [])
-    ∷ [])
-    ∷ node role.Body kind.ExpressionStatement []
-    (node role.Expression kind.CallExpression []
-    (node role.Callee kind.ParenthesizedExpression []
-    (node role.Expression kind.ArrowFunctionExpression []
-    (node role.Params kind.FormalParameters (codes "arrow")
-    (node role.Items kind.FormalParameter []
-    (node role.Pattern kind.BindingIdentifier (codes "a") []
-    ∷ [])
-    ∷ node role.Items kind.FormalParameter []
-    (node role.Pattern kind.BindingIdentifier (codes "b") []
-    ∷ node role.Initializer kind.ArrowFunctionExpression []
-    (node role.Params kind.FormalParameters (codes "arrow") []
-    ∷ node role.Body kind.IdentifierReference (codes "a") []
-    ∷ [])
-    ∷ [])
-    ∷ [])
-    ∷ node role.Body kind.FunctionBody []
-    (node role.Body kind.VariableDeclaration (codes "var")
-    (node role.Declarators kind.VariableDeclarator []
-    (node role.Id kind.BindingIdentifier (codes "a") []
-    ∷ [])
-    ∷ [])
-    ∷ node role.Body kind.ExpressionStatement []
-    (node role.Expression kind.IdentifierReference (codes "a") []
-    ∷ [])
-    ∷ node role.Body kind.ExpressionStatement []
-    (node role.Expression kind.IdentifierReference (codes "c") []
-    ∷ [])
-    ∷ [])
-    ∷ [])
-    ∷ [])
-    ∷ [])
-    ∷ [])
-    ∷ node role.Body kind.VariableDeclaration (codes "let")
-    (node role.Declarators kind.VariableDeclarator []
-    (node role.Id kind.BindingIdentifier (codes "c") []
-    ∷ [])
-    ∷ [])
+    ∷ function_body (variable (codes "var") (codes "a") ∷ mention (codes "a") ∷ mention (codes "c") ∷ [])
+    ∷ []))
+    ∷ []))
+    ∷ variable (codes "let") (codes "c")
     ∷ [])
 
 -- `import a, { b as c } from "m"; { function f() {} f } f; a; b; c; export { c as d }`
@@ -463,42 +193,17 @@ abbrev pub in_module : Tree
 in_module =
     program goal.Module lang.Js
     (node role.Body kind.ImportDeclaration []
-    (node role.Specifiers kind.ImportDefaultSpecifier []
-    (node role.Local kind.BindingIdentifier (codes "a") []
-    ∷ [])
-    ∷ node role.Specifiers kind.ImportSpecifier []
-    (node role.Imported kind.IdentifierName (codes "b") []
-    ∷ node role.Local kind.BindingIdentifier (codes "c") []
-    ∷ [])
+    (node role.Specifiers kind.ImportDefaultSpecifier [] (binding role.Local (codes "a") ∷ [])
+    ∷ node role.Specifiers kind.ImportSpecifier [] (node role.Imported kind.IdentifierName (codes "b") [] ∷ binding role.Local (codes "c") ∷ [])
     ∷ node role.Source kind.StringLiteral (codes "m") []
     ∷ [])
-    ∷ node role.Body kind.BlockStatement []
-    (node role.Body kind.Function (codes "declaration")
-    (node role.Id kind.BindingIdentifier (codes "f") []
-    ∷ node role.Params kind.FormalParameters (codes "formal") []
-    ∷ node role.Body kind.FunctionBody [] []
-    ∷ [])
-    ∷ node role.Body kind.ExpressionStatement []
-    (node role.Expression kind.IdentifierReference (codes "f") []
-    ∷ [])
-    ∷ [])
-    ∷ node role.Body kind.ExpressionStatement []
-    (node role.Expression kind.IdentifierReference (codes "f") []
-    ∷ [])
-    ∷ node role.Body kind.ExpressionStatement []
-    (node role.Expression kind.IdentifierReference (codes "a") []
-    ∷ [])
-    ∷ node role.Body kind.ExpressionStatement []
-    (node role.Expression kind.IdentifierReference (codes "b") []
-    ∷ [])
-    ∷ node role.Body kind.ExpressionStatement []
-    (node role.Expression kind.IdentifierReference (codes "c") []
-    ∷ [])
+    ∷ block role.Body (function role.Body (codes "f") [] [] ∷ mention (codes "f") ∷ [])
+    ∷ mention (codes "f")
+    ∷ mention (codes "a")
+    ∷ mention (codes "b")
+    ∷ mention (codes "c")
     ∷ node role.Body kind.ExportNamedDeclaration []
-    (node role.Specifiers kind.ExportSpecifier []
-    (node role.Local kind.IdentifierReference (codes "c") []
-    ∷ node role.Exported kind.IdentifierName (codes "d") []
-    ∷ [])
+    (node role.Specifiers kind.ExportSpecifier [] (reference role.Local (codes "c") ∷ node role.Exported kind.IdentifierName (codes "d") [] ∷ [])
     ∷ [])
     ∷ [])
 
@@ -506,95 +211,42 @@ in_module =
 abbrev pub if_body : Tree
 if_body =
     program goal.Script lang.Js
-    (node role.Body kind.IfStatement []
-    (marked (mark.Decimal ∷ []) role.Test kind.NumericLiteral (codes "1") []
-    ∷ node role.Consequent kind.Function (codes "declaration")
-    (node role.Id kind.BindingIdentifier (codes "f") []
-    ∷ node role.Params kind.FormalParameters (codes "formal") []
-    ∷ node role.Body kind.FunctionBody []
-    (node role.Body kind.ExpressionStatement []
-    (node role.Expression kind.IdentifierReference (codes "f") []
-    ∷ [])
-    ∷ [])
-    ∷ [])
-    ∷ [])
-    ∷ node role.Body kind.ExpressionStatement []
-    (node role.Expression kind.IdentifierReference (codes "f") []
-    ∷ [])
+    (node role.Body kind.IfStatement [] (number role.Test (codes "1") ∷ function role.Consequent (codes "f") [] (mention (codes "f") ∷ []) ∷ [])
+    ∷ mention (codes "f")
     ∷ [])
 
 -- `{ l: function f() {} } f`
 abbrev pub labelled : Tree
 labelled =
     program goal.Script lang.Js
-    (node role.Body kind.BlockStatement []
-    (node role.Body kind.LabeledStatement []
-    (node role.Label kind.LabelIdentifier (codes "l") []
-    ∷ node role.Body kind.Function (codes "declaration")
-    (node role.Id kind.BindingIdentifier (codes "f") []
-    ∷ node role.Params kind.FormalParameters (codes "formal") []
-    ∷ node role.Body kind.FunctionBody [] []
-    ∷ [])
-    ∷ [])
-    ∷ [])
-    ∷ node role.Body kind.ExpressionStatement []
-    (node role.Expression kind.IdentifierReference (codes "f") []
-    ∷ [])
+    (block role.Body
+    (node role.Body kind.LabeledStatement [] (node role.Label kind.LabelIdentifier (codes "l") [] ∷ function role.Body (codes "f") [] [] ∷ []) ∷ [])
+    ∷ mention (codes "f")
     ∷ [])
 
 -- `{ async function f() {} f } { function* g() {} } f; g`
 abbrev pub special_blocks : Tree
 special_blocks =
     program goal.Script lang.Js
-    (node role.Body kind.BlockStatement []
-    (marked (mark.Async ∷ []) role.Body kind.Function (codes "declaration")
-    (node role.Id kind.BindingIdentifier (codes "f") []
-    ∷ node role.Params kind.FormalParameters (codes "formal") []
-    ∷ node role.Body kind.FunctionBody [] []
-    ∷ [])
-    ∷ node role.Body kind.ExpressionStatement []
-    (node role.Expression kind.IdentifierReference (codes "f") []
-    ∷ [])
-    ∷ [])
-    ∷ node role.Body kind.BlockStatement []
-    (marked (mark.Generator ∷ []) role.Body kind.Function (codes "declaration")
-    (node role.Id kind.BindingIdentifier (codes "g") []
-    ∷ node role.Params kind.FormalParameters (codes "formal") []
-    ∷ node role.Body kind.FunctionBody [] []
-    ∷ [])
-    ∷ [])
-    ∷ node role.Body kind.ExpressionStatement []
-    (node role.Expression kind.IdentifierReference (codes "f") []
-    ∷ [])
-    ∷ node role.Body kind.ExpressionStatement []
-    (node role.Expression kind.IdentifierReference (codes "g") []
-    ∷ [])
+    (block role.Body
+    (marked (mark.Async ∷ []) role.Body kind.Function (codes "declaration") (function_parts (codes "f") [] []) ∷ mention (codes "f") ∷ [])
+    ∷ block role.Body (marked (mark.Generator ∷ []) role.Body kind.Function (codes "declaration") (function_parts (codes "g") [] []) ∷ [])
+    ∷ mention (codes "f")
+    ∷ mention (codes "g")
     ∷ [])
 
 -- `function f() { arguments; (() => arguments)() } arguments`
 abbrev pub reads_arguments : Tree
 reads_arguments =
     program goal.Script lang.Js
-    (node role.Body kind.Function (codes "declaration")
-    (node role.Id kind.BindingIdentifier (codes "f") []
-    ∷ node role.Params kind.FormalParameters (codes "formal") []
-    ∷ node role.Body kind.FunctionBody []
-    (node role.Body kind.ExpressionStatement []
-    (node role.Expression kind.IdentifierReference (codes "arguments") []
-    ∷ [])
-    ∷ node role.Body kind.ExpressionStatement []
+    (function role.Body (codes "f") []
+    (mention (codes "arguments")
+    ∷ statement
     (node role.Expression kind.CallExpression []
-    (node role.Callee kind.ParenthesizedExpression []
+    (in_parentheses role.Callee
     (node role.Expression kind.ArrowFunctionExpression []
-    (node role.Params kind.FormalParameters (codes "arrow") []
-    ∷ node role.Body kind.IdentifierReference (codes "arguments") []
+    (node role.Params kind.FormalParameters (codes "arrow") [] ∷ reference role.Body (codes "arguments") ∷ []))
+    ∷ []))
     ∷ [])
-    ∷ [])
-    ∷ [])
-    ∷ [])
-    ∷ [])
-    ∷ [])
-    ∷ node role.Body kind.ExpressionStatement []
-    (node role.Expression kind.IdentifierReference (codes "arguments") []
-    ∷ [])
+    ∷ mention (codes "arguments")
     ∷ [])

@@ -4,12 +4,13 @@ use Rattle.std.specs.Str.{chars}
 use Rattle.std.proofs.Common.{◌≡◌, [], ◌∷◌, codes, true, refl}
 use Rattle.tangle_model.specs.Tangled.{tangle_reasons}
 use Rattle.tangle_model.specs.declared.reason.Reason.TheVariants.{BlockFunction, CatchVariable, With}
+use Rattle.tangle_model.proofs.Programs.{two_blocks}
 use Rattle.language_ties.specs.Agreement.{differing}
 use Rattle.language_ties.specs.EarlyErrors.{has_clash}
 use Rattle.language_ties.specs.Meaning.{meanings, unbound, of_object, bound}
 use Rattle.language_ties.specs.declared.environment_kind.EnvironmentKind.TheVariants.{ArrowParameters, Block, Body, Catch, Class, Global, IfBody, Loop, Object, OwnName, Parameters, StaticBlock}
 use Rattle.language_ties.proofs.Programs.{one_block, barred_block, strict_block, header_and_var, parameter_and_var, own_name, own_name_and_var, classes, loops, cases, catches, arrows, in_module, if_body, labelled, special_blocks, reads_arguments}
-use Rattle.language_ties.proofs.PartingPrograms.{two_blocks, own_name_and_catch, own_name_and_block, catch_and_block, let_and_if, if_and_parameter, catch_and_var, in_with, block_and_var, clash}
+use Rattle.language_ties.proofs.PartingPrograms.{own_name_and_catch, own_name_and_block, catch_and_block, let_and_if, if_and_parameter, catch_and_var, in_with, block_and_var, clash}
 
 -- a function in a block: its block binds it, and the script its variable
 one_block_meant : meanings one_block ≡ record { node = 7; meaning = bound (record { kind = Block; maker = 1 }) (3 ∷ []) } ∷ record { node = 9; meaning = bound (record { kind = Global; maker = 0 }) (3 ∷ []) } ∷ []

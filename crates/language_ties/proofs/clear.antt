@@ -3,4 +3,5 @@ pub mod LexicalNames
 pub mod SingleNames
 pub mod ParameterPlaces
 pub mod PassedScopes
+pub mod HowDeclared
 pub mod UnclashedNames

@@ -5,3 +5,4 @@ pub mod PassedClasses
 pub mod OwnBounds
 pub mod AnyBounds
 pub mod OwnSymbols
+pub mod ClasslessNames

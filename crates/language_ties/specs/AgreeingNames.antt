@@ -1,5 +1,5 @@
 -- Names of which tables and language are proved to agree, and where.
-use Rattle.std.specs.Prelude.{◌≡◌, List, [], ◌∷◌, Bool, true, false, ◌&&◌, ◌||◌, not}
+use Rattle.std.specs.Prelude.{◌≡◌, List, [], ◌∷◌, ◌++◌, Bool, true, false, ◌&&◌, ◌||◌, not, ◌⊎◌}
 use Rattle.semantic_kinds.specs.declared.kind.AstType.TheVariants as kind
 use Rattle.semantic_syntax.specs.Tables.{Name}
 use Rattle.semantic_tree.specs.Tree.{Tree}
@@ -10,8 +10,8 @@ use Rattle.semantic_model.specs.Entries.{Among}
 use Rattle.semantic_model.specs.Place.{Place}
 use Rattle.semantic_model.specs.Step.{entering, steps}
 use Rattle.tangle_model.specs.Surroundings.{in_with_under}
-use Rattle.language_ties.specs.Agreement.{use_agrees}
-use Rattle.language_ties.specs.Bound.{Bound, bound_by_node, is_bound_as, written}
+use Rattle.language_ties.specs.Agreement.{use_agrees, use_agrees_past_objects}
+use Rattle.language_ties.specs.Bound.{Bound, is_bound_as, written}
 use Rattle.language_ties.specs.Environments.{Environment, is_made_for, has_parameter_expressions}
 use Rattle.language_ties.specs.Meaning.{use_at}
 use Rattle.language_ties.specs.Moved.{bound_of}
@@ -32,42 +32,40 @@ is_declared_plainly b =
 abbrev pub is_plain : Bound → Bool
 is_plain b = is_bound_as bound.OwnName b || is_declared_plainly b
 
--- the name is bound only so: by `var`, `let`, `const`, imports, classes, functions without a variable beside, as a parameter, as the own name of an expression, and by catch clauses
-abbrev pub IsBoundPlainly : Tree → Name → Type 0
-IsBoundPlainly p name = (b : Bound) → Among b (written p.source_type (steps p)) → b.name ≡ name → is_plain b ≡ true
+-- a function in a block that has a variable beside, if nothing bars it
+abbrev pub leaves_block : Bound → Bool
+leaves_block b = is_bound_as bound.Function b && not (has_none b.also)
 
--- the name is bound plainly, and no `var` of it passes a clause whose plain parameter it is (B.3.4)
+-- the environments through which a name goes: where it is bound, those its variable passes, and where else it is bound
+abbrev pub crossed : Bound → List Environment
+crossed b = b.environment ∷ (b.passed ++ b.also)
+
+-- whether both are made by one node; a function that is the body of an `if` makes more than one environment, and one of them round itself
+abbrev pub HaveOneMaker : Environment → Environment → Type 0
+HaveOneMaker d e = (d.maker ≡ e.maker) × (is_made_for environment.IfBody d ≡ is_made_for environment.IfBody e)
+
+-- nothing else of its name goes through a node that makes an environment on its way
+abbrev pub IsAlone : Tree → Bound → Type 0
+IsAlone p b =
+    (c : Bound) → Among c (written p.source_type (steps p)) → c.name ≡ b.name → (d e : Environment) → Among d (crossed b) → Among e (crossed c) → HaveOneMaker d e → c ≡ b
+
+-- the name is bound plainly, or by functions that leave their blocks alone, and no `var` of it passes a clause whose plain parameter it is (B.3.4)
 pub record IsPlainName (p : Tree) (name : Name) : Type 0 where
-  pub each : IsBoundPlainly p name
+  pub each : (b : Bound) → Among b (written p.source_type (steps p)) → b.name ≡ name → (is_plain b ≡ true) ⊎ ((leaves_block b ≡ true) × IsAlone p b)
   pub unpassed : (b c : Bound) → Among b (written p.source_type (steps p)) → Among c (written p.source_type (steps p)) → b.name ≡ name → c.name ≡ name → is_bound_as bound.CatchName b ≡ true → is_bound_as bound.Var c ≡ true → Among b.environment c.passed → ⊥
-
--- no `with` holds what binds the name
-abbrev pub IsBoundOutsideWith : Tree → Name → Type 0
-IsBoundOutsideWith p name =
-    (q : Place) → Among (entering q) (steps p) → (b : Bound) → Among b (bound_by_node q.node.kind p.source_type q.node q.path) → b.name ≡ name → in_with_under q.path ≡ false
 
 -- of the functions among whose parameters the place stands, each that binds the name has an expression there
 abbrev pub StandsInExpressions : List Bound → Name → Node → List Node → Type 0
 StandsInExpressions bs name child [] = Unit {0}
 StandsInExpressions bs name child (f ∷ path) =
-    (is kind.FormalParameters child ≡ true → (b : Bound) → Among b bs → b.name ≡ name → b.environment.maker ≡ f.node_id
+    (is kind.FormalParameters child ≡ true → (b : Bound) (d : Environment) → Among b bs → b.name ≡ name → Among d (b.environment ∷ b.also) → d.maker ≡ f.node_id
     → has_parameter_expressions f ≡ true)
     × StandsInExpressions bs name f path
 
--- a reference of the name stands in no `with`, and where it stands among parameters, in an expression
-abbrev pub StandsApart : Tree → Name → Place → Type 0
-StandsApart p name q =
-    (in_with_under q.path ≡ false) × StandsInExpressions (written p.source_type (steps p)) name q.node q.path
-
--- each does
-abbrev pub AllStandApart : Tree → Name → Type 0
-AllStandApart p name =
-    (q : Place) → Among (entering q) (steps p) → is kind.IdentifierReference q.node ≡ true → q.node.text ≡ name → StandsApart p name q
-
--- tables and language agree on each reference of the name that stands so
-abbrev pub AgreesApart : Tree → Name → Type 0
-AgreesApart p name =
-    (q : Place) → Among (entering q) (steps p) → is kind.IdentifierReference q.node ≡ true → q.node.text ≡ name → StandsApart p name q → use_agrees (analysis_of p) (bound_of p) (use_at q) ≡ true
+-- each reference of the name stands so
+abbrev pub AllStandInExpressions : Tree → Name → Type 0
+AllStandInExpressions p name =
+    (q : Place) → Among (entering q) (steps p) → is kind.IdentifierReference q.node ≡ true → q.node.text ≡ name → StandsInExpressions (written p.source_type (steps p)) name q.node q.path
 
 -- no `with` holds a reference of the name
 abbrev pub IsReadOutsideWith : Tree → Name → Type 0
@@ -77,5 +75,9 @@ IsReadOutsideWith p name =
 -- tables and language agree on each that no `with` holds
 abbrev pub AgreesOutsideWith : Tree → Name → Type 0
 AgreesOutsideWith p name =
-    (q : Place) → Among (entering q) (steps p) → is kind.IdentifierReference q.node ≡ true → q.node.text ≡ name → in_with_under q.path ≡ false
-    → use_agrees (analysis_of p) (bound_of p) (use_at q) ≡ true
+    (q : Place) → Among (entering q) (steps p) → is kind.IdentifierReference q.node ≡ true → q.node.text ≡ name → in_with_under q.path ≡ false → use_agrees (analysis_of p) (bound_of p) (use_at q) ≡ true
+
+-- so they do on each reference, if no object of a `with` has the name
+abbrev pub AgreesPastObjects : Tree → Name → Type 0
+AgreesPastObjects p name =
+    (q : Place) → Among (entering q) (steps p) → is kind.IdentifierReference q.node ≡ true → q.node.text ≡ name → use_agrees_past_objects (analysis_of p) (bound_of p) (use_at q) ≡ true

@@ -6,7 +6,7 @@ use Rattle.semantic_tree.specs.Tree.{Tree}
 use Rattle.semantic_model.specs.Analysis.{Analysis, analysis_of, symbol_at, tied_at}
 use Rattle.semantic_model.specs.Step.{steps}
 use Rattle.language_ties.specs.Bound.{Bound}
-use Rattle.language_ties.specs.Meaning.{Meaning, unbound, of_object, bound, meaning, Use, uses}
+use Rattle.language_ties.specs.Meaning.{Meaning, unbound, of_object, bound, meaning, meaning_past_objects, Use, uses}
 use Rattle.language_ties.specs.Moved.{bound_of}
 
 abbrev pub is_symbol : ℕ → Option ℕ → Bool
@@ -35,6 +35,10 @@ agrees a node (bound e ids) = is_tied_as_bound a ids (tied_at a node)
 
 abbrev pub use_agrees : Analysis → List Bound → Use → Bool
 use_agrees a bs u = agrees a u.node (meaning bs u.round u.name)
+
+-- so it is if no object of a `with` has the name
+abbrev pub use_agrees_past_objects : Analysis → List Bound → Use → Bool
+use_agrees_past_objects a bs u = agrees a u.node (meaning_past_objects bs u.round u.name)
 
 -- the references of the name of which tables and language say something else
 abbrev pub differing : Tree → Name → List ℕ

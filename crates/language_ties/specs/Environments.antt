@@ -1,7 +1,7 @@
 -- The environments round a place, innermost first, by the nodes above it (ECMA-262, 9.1).
 use Rattle.std.specs.Prelude.{ℕ, ◌==◌, List, [], ◌∷◌, ◌++◌, Bool, false, ◌&&◌, ◌||◌, not, Option, Some, None, cond}
 use denote.Enum.Bare.{sameb}
-use Rattle.semantic_kinds.specs.Classes.{holds_kind}
+use Rattle.semantic_kinds.specs.Classes.{holds_kind, is_kind_of_statement}
 use Rattle.semantic_kinds.specs.Kinds.{same_kind}
 use Rattle.semantic_kinds.specs.MarkSets.{has_mark}
 use Rattle.semantic_kinds.specs.Roles.{same_role}
@@ -10,7 +10,7 @@ use Rattle.semantic_kinds.specs.declared.kind.AstType.TheVariants as kind
 use Rattle.semantic_kinds.specs.declared.mark.Mark.TheVariants as mark
 use Rattle.semantic_kinds.specs.declared.role.Role.TheVariants as role
 use Rattle.semantic_tree.specs.Forest.{Forest, nothing, tree}
-use Rattle.semantic_tree.specs.Views.{is, holds, child_of, is_child_in}
+use Rattle.semantic_tree.specs.Views.{is, holds, child_of}
 use Rattle.semantic_tree.specs.declared.node.Node.{Node}
 use Rattle.semantic_model.specs.Binder.{is_statement}
 use Rattle.language_ties.specs.contracts.environment_kind.EnvironmentKind.{the_type as the_kinds}
@@ -34,11 +34,22 @@ is_made_for k e = same_environment_kind e.kind k
 abbrev pub made_for : EnvironmentKind → Node → Environment
 made_for k x = record { kind = k; maker = x.node_id }
 
--- whether parameters have an expression: an initializer or a computed key (15.1.2, ContainsExpression)
+-- whether a reference stands in the forest
+abbrev pub refers : Forest → Bool
+refers nothing = false
+refers (tree r k span text marks below id after) = same_kind k kind.IdentifierReference || refers below || refers after
+
+-- whether one stands in the key of a property with these children
+abbrev pub key_refers : Forest → Bool
+key_refers nothing = false
+key_refers (tree r k span text marks below id after) =
+    (same_role r role.Key && (same_kind k kind.IdentifierReference || refers below)) || key_refers after
+
+-- whether parameters have an expression: an initializer or a computed key, which is marked as one or refers (15.1.2, ContainsExpression)
 abbrev pub contains_expression : Forest → Bool
 contains_expression nothing = false
 contains_expression (tree r k span text marks below id after) =
-    same_role r role.Initializer || same_kind k kind.AssignmentPattern || (same_kind k kind.BindingProperty && has_mark marks mark.Computed)
+    same_role r role.Initializer || same_kind k kind.AssignmentPattern || (same_kind k kind.BindingProperty && (has_mark marks mark.Computed || key_refers below))
     || contains_expression below || contains_expression after
 
 abbrev pub has_parameter_expressions : Node → Bool
@@ -52,6 +63,10 @@ is_outside_body child = holds_kind (kind.BindingIdentifier ∷ kind.FormalParame
 abbrev pub body_round : Node → Node → List Environment
 body_round function child =
     cond (not (is_outside_body child) && has_parameter_expressions function) (made_for environment.Body function ∷ []) []
+
+-- the body of a `with` is a statement, and its object is none
+abbrev pub is_body_of_with : Node → Bool
+is_body_of_with child = is_kind_of_statement child.kind child.text
 
 -- the environments that a node of the kind makes round one of its children
 abbrev pub made_by : AstType → Node → Node → List Environment
@@ -67,7 +82,7 @@ made_by kind.ForInStatement x child = made_for environment.Loop x ∷ []
 made_by kind.ForOfStatement x child = made_for environment.Loop x ∷ []
 made_by kind.CatchClause x child = made_for environment.Catch x ∷ []
 made_by kind.Class x child = cond (is kind.Decorator child) [] (made_for environment.Class x ∷ [])
-made_by kind.WithStatement x child = cond (is_child_in role.Body x child) (made_for environment.Object x ∷ []) []
+made_by kind.WithStatement x child = cond (is_body_of_with child) (made_for environment.Object x ∷ []) []
 made_by _ x child = []
 
 -- the environments round a node, under the nodes above it, parent first

@@ -14,4 +14,4 @@ pub mod NearestScopes
 pub mod OneSymbol
 pub mod ClearNames
 pub mod AgreeingNames
-pub mod MarkedKeys
+pub mod Misplaced

@@ -44,6 +44,12 @@ meaning bs (e ∷ es) name =
     (of_object e)
     (bound_or e (identifiers_in bs e name) (cond (binds_arguments e name) (bound e []) (meaning bs es name)))
 
+-- what it means there if no object of a `with` has it
+abbrev pub meaning_past_objects : List Bound → List Environment → Name → Meaning
+meaning_past_objects bs [] name = unbound
+meaning_past_objects bs (e ∷ es) name =
+    bound_or e (identifiers_in bs e name) (cond (binds_arguments e name) (bound e []) (meaning_past_objects bs es name))
+
 -- a reference with the environments round it
 pub record Use : Type 0 where
   pub node : ℕ

@@ -1,11 +1,10 @@
 -- Scopes of the tables and environments of the language, told by what makes them.
-use Rattle.std.specs.Prelude.{◌≡◌, ℕ, List, [], ◌∷◌, Bool, false, ◌||◌, not, cond, map}
+use Rattle.std.specs.Prelude.{◌≡◌, ℕ, List, [], ◌∷◌, Bool, ◌||◌, not, cond, map}
 use Rattle.semantic_model.specs.Binder.{is_var}
 use Rattle.semantic_model.specs.EachStep.{EachStep}
 use Rattle.semantic_model.specs.Place.{Place, OpenScope}
 use Rattle.semantic_model.specs.Step.{Step, entering, opening, header_ending, closing, leaving, steps}
 use Rattle.semantic_tree.specs.Tree.{Tree}
-use Rattle.tangle_model.specs.Surroundings.{in_with_under}
 use Rattle.language_ties.specs.Environments.{Environment, is_made_for, takes_variables, environments}
 use Rattle.language_ties.specs.declared.environment_kind.EnvironmentKind.TheVariants as environment
 
@@ -29,9 +28,9 @@ abbrev pub makers : List Environment → List Maker
 makers [] = []
 makers (e ∷ es) = cond (has_scope e) (maker_of_environment e ∷ makers es) (makers es)
 
--- the scopes of a place that is in no `with` are those of its environments
+-- the scopes of a place are those of its environments
 abbrev pub HasItsEnvironments : Place → Type 0
-HasItsEnvironments p = in_with_under p.path ≡ false → map maker_of_scope p.chain ≡ makers (environments p.node p.path)
+HasItsEnvironments p = map maker_of_scope p.chain ≡ makers (environments p.node p.path)
 
 abbrev pub HasThem : Step → Type 0
 HasThem (entering p) = HasItsEnvironments p

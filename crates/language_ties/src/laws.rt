@@ -1,31 +1,33 @@
 //! Laws over what ECMAScript binds and what the tables say.
-ghost use Rattle.std.specs.Prelude.{◌≡◌, true, false, None, [], bytes_eq, codes};
+ghost use Rattle.std.specs.Prelude.{◌≡◌, true, false, None, [], ◌∷◌, bytes_eq, codes};
 ghost use Rattle.semantic_syntax.specs.Tables.{Name};
 ghost use Rattle.semantic_tree.specs.Faults.{first_fault};
 ghost use Rattle.semantic_tree.specs.Tree.{Tree, IsNumbered};
 ghost use Rattle.semantic_model.specs.Event.{declarations, events};
 ghost use Rattle.semantic_model.specs.Step.{steps};
 ghost use Rattle.tangle_model.specs.Tangled.{tangle_reasons};
-ghost use Rattle.language_ties.specs.AgreeingNames.{AgreesApart, AgreesOutsideWith, AllStandApart, IsBoundOutsideWith, IsBoundPlainly, IsPlainName, IsReadOutsideWith};
+ghost use Rattle.tangle_model.specs.declared.reason.Reason.TheVariants as reason;
+ghost use Rattle.language_ties.specs.AgreeingNames.{AgreesOutsideWith, AgreesPastObjects, AllStandInExpressions, IsPlainName, IsReadOutsideWith};
 ghost use Rattle.language_ties.specs.Agreement.{differing};
 ghost use Rattle.language_ties.specs.ClearNames.{IsBoundOnce, StaysInside};
 ghost use Rattle.language_ties.specs.EarlyErrors.{has_clash};
-ghost use Rattle.language_ties.specs.ToldNames.{DeclarationsAreBound, NamesAreBound};
+ghost use Rattle.language_ties.specs.ToldNames.{DeclarationsAreBound, LeavingAreTold, NamesAreBound};
 ghost use Rattle.language_ties.specs.EcmaScript.{is_ecmascript};
 ghost use Rattle.language_ties.specs.Environments.{Environment};
 ghost use Rattle.language_ties.specs.Meaning.{identifiers_in};
-ghost use Rattle.language_ties.specs.MarkedKeys.{keys_are_marked};
+ghost use Rattle.language_ties.specs.Misplaced.{has_misplaced};
 ghost use Rattle.language_ties.specs.Moved.{bound_of};
 ghost use Rattle.language_ties.specs.NearestScopes.{AreTiedNearest};
-ghost use Rattle.language_ties.specs.OneSymbol.{EnvironmentsHaveOneSymbol};
+ghost use Rattle.language_ties.specs.OneSymbol.{EnvironmentsHaveOneSymbol, VariablesHaveOneSymbol};
 ghost use Rattle.language_ties.specs.Scopes.{ScopesAreEnvironments};
 ghost use Rattle.language_ties.specs.SharedSymbols.{AllKeepClear, ShareSymbols};
 ghost use Rattle.language_ties.specs.StrictCode.{StrictnessAgrees};
 ghost use Rattle.language_ties.specs.UnboundNames.{binds_name, IsFreeEverywhere};
 
-/// The scopes round a node of an ECMAScript program, outside of `with`, are its environments: made by the same nodes in the same
-/// order, and `var` declares in the same. Environments without a scope of their own are those of the names of functions, of
-/// bodies with an environment apart from the parameters', and of functions that are bodies of `if`.
+/// The scopes round a node of an ECMAScript program are its environments: made by the same nodes in the same order, and `var`
+/// declares in the same. So is the scope of the body of a `with`, which has the object for its environment. Environments without a
+/// scope of their own are those of the names of functions, of bodies with an environment apart from the parameters', and of
+/// functions that are bodies of `if`.
 pub fn scopes_are_environments()
     ensures { (p : Tree) → first_fault p ≡ None → is_ecmascript p ≡ true → ScopesAreEnvironments p }
 {}
@@ -36,14 +38,18 @@ pub fn strictness_agrees()
     ensures { (p : Tree) → first_fault p ≡ None → is_ecmascript p ≡ true → StrictnessAgrees p }
 {}
 
-/// What the tables are told to declare at a node of an ECMAScript program, outside of `with`, is what the language binds there:
-/// the same identifiers and names in the same order, each in the scope of the node that makes its environment. Functions that may
-/// leave their blocks are left out: those that have a variable beside, and those that are the body of an `if`.
+/// What the tables are told to declare at a node of an ECMAScript program is what the language binds there: the same identifiers
+/// and names in the same order, each in the scope of the node that makes its environment. Of functions that leave their blocks,
+/// since they have a variable beside, it is that variable, be they the body of an `if`. Left out are bodies of `if` without such a
+/// variable, which other checks refuse.
 pub fn declarations_are_bound()
-    ensures { (p : Tree) → first_fault p ≡ None → is_ecmascript p ≡ true → DeclarationsAreBound p }
+    ensures staying { (p : Tree) → first_fault p ≡ None → is_ecmascript p ≡ true
+        → DeclarationsAreBound p }
+    ensures leaving { (p : Tree) → first_fault p ≡ None → is_ecmascript p ≡ true
+        → IsNumbered p.root → LeavingAreTold p }
 {}
 
-/// Everywhere in such a program, in blocks and in `with` too, the names that the tables are told to declare are those that the
+/// Everywhere in such a program, of functions in blocks too, the names that the tables are told to declare are those that the
 /// language binds, each by its identifier.
 pub fn names_are_bound()
     ensures { (p : Tree) → first_fault p ≡ None → is_ecmascript p ≡ true → NamesAreBound p }
@@ -67,10 +73,13 @@ pub fn clear_names_share_symbols()
         → AllKeepClear name (declarations (events (steps p))) → ShareSymbols p name }
 {}
 
-/// The identifiers by which the environments of one node bind such a name have one symbol, outside of `with`. Functions that may
-/// leave their blocks and own names of expressions are left out.
+/// The identifiers by which the environments of one node bind such a name have one symbol. Functions that may leave their blocks
+/// and own names of expressions are left out. Of a name that isn't tangled, those functions count where their variables are.
 pub fn environments_have_one_symbol()
-    ensures { (p : Tree) (name : Name) → first_fault p ≡ None → is_ecmascript p ≡ true
+    ensures untangled { (p : Tree) (name : Name) → first_fault p ≡ None → is_ecmascript p ≡ true
+        → IsNumbered p.root → tangle_reasons p name ≡ []
+        → has_misplaced p name ≡ false → has_clash p name ≡ false → VariablesHaveOneSymbol p name }
+    ensures clear { (p : Tree) (name : Name) → first_fault p ≡ None → is_ecmascript p ≡ true
         → IsNumbered p.root → AllKeepClear name (declarations (events (steps p)))
         → EnvironmentsHaveOneSymbol p name }
 {}
@@ -82,7 +91,8 @@ pub fn references_are_tied_nearest()
 {}
 
 /// Declarations of a name keep clear of each other where it is bound as no variable, no function and no plain catch name, where
-/// one identifier alone binds it, and where it is bound in plain ways, nowhere in a `with`, and no `var` clashes.
+/// one identifier alone binds it, and where it is bound in plain ways or by functions that leave their blocks alone, and no
+/// `var` clashes. So do those of a name that isn't tangled, under the premises of `untangled_names_agree`.
 pub fn names_keep_clear()
     ensures lexical { (p : Tree) (name : Name) → first_fault p ≡ None → is_ecmascript p ≡ true
         → StaysInside p name → AllKeepClear name (declarations (events (steps p))) }
@@ -90,45 +100,52 @@ pub fn names_keep_clear()
         → IsNumbered p.root → IsBoundOnce p name
         → AllKeepClear name (declarations (events (steps p))) }
     ensures unclashed { (p : Tree) (name : Name) → first_fault p ≡ None → is_ecmascript p ≡ true
-        → IsNumbered p.root → IsBoundOutsideWith p name → IsPlainName p name
+        → IsNumbered p.root → IsPlainName p name
         → has_clash p name ≡ false → AllKeepClear name (declarations (events (steps p))) }
+    ensures untangled { (p : Tree) (name : Name) → first_fault p ≡ None → is_ecmascript p ≡ true
+        → IsNumbered p.root → tangle_reasons p name ≡ []
+        → has_misplaced p name ≡ false → has_clash p name ≡ false
+        → AllKeepClear name (declarations (events (steps p))) }
 {}
 
 /// Tables and language agree on a name of which no `var` clashes, and which the program binds by `var`, `let`, `const`, imports,
-/// classes, functions, parameters, own names of expressions and catch clauses alone, all outside of `with`, by no function in a
-/// block of sloppy code that has a variable beside, by none that is the body of an `if`, and by no plain catch name whose clause a
-/// `var` of the name passes: each reference is tied to the one symbol of all by which the innermost environment binds the name
-/// that binds it at all, and free where none does, in headers of functions and clauses, too.
-/// Left out are references in a `with`, and those among parameters without an expression of a function that binds the name, which
-/// no source has: where computed keys are marked, none stands so (`references_stand_in_expressions`).
+/// classes, functions, parameters, own names of expressions and catch clauses alone, by no plain catch name whose clause a `var` of
+/// the name passes, and by functions in blocks of sloppy code that have a variable beside, bodies of `if` among them, only where
+/// nothing else of the name is bound on the way of that variable: each reference is tied to the one symbol of all by which the
+/// innermost environment binds the name that binds it at all, and free where none does, in headers of functions and clauses, too. In
+/// a `with` its object may have the name; they agree there on what the name means if it hasn't.
 pub fn plain_names_agree()
-    ensures each { (p : Tree) (name : Name) → first_fault p ≡ None → is_ecmascript p ≡ true
-        → IsNumbered p.root → IsBoundOutsideWith p name → bytes_eq name (codes "arguments") ≡ false
-        → IsPlainName p name → has_clash p name ≡ false → AgreesApart p name }
+    ensures outside { (p : Tree) (name : Name) → first_fault p ≡ None → is_ecmascript p ≡ true
+        → IsNumbered p.root → bytes_eq name (codes "arguments") ≡ false
+        → IsPlainName p name → has_clash p name ≡ false → AgreesOutsideWith p name }
     ensures none { (p : Tree) (name : Name) → first_fault p ≡ None → is_ecmascript p ≡ true
-        → IsNumbered p.root → IsBoundOutsideWith p name → bytes_eq name (codes "arguments") ≡ false
-        → IsPlainName p name → has_clash p name ≡ false → AllStandApart p name
+        → IsNumbered p.root → bytes_eq name (codes "arguments") ≡ false
+        → IsPlainName p name → has_clash p name ≡ false → IsReadOutsideWith p name
         → differing p name ≡ [] }
-    ensures marked { (p : Tree) (name : Name) → first_fault p ≡ None → is_ecmascript p ≡ true
-        → IsNumbered p.root → IsBoundOutsideWith p name → bytes_eq name (codes "arguments") ≡ false
-        → IsPlainName p name → has_clash p name ≡ false → keys_are_marked p.root.children ≡ true
-        → AgreesOutsideWith p name }
+    ensures past_objects { (p : Tree) (name : Name) → first_fault p ≡ None → is_ecmascript p ≡ true
+        → IsNumbered p.root → bytes_eq name (codes "arguments") ≡ false
+        → IsPlainName p name → has_clash p name ≡ false → AgreesPastObjects p name }
 {}
 
-/// Where computed keys of patterns are marked, a reference that stands among the parameters of a function stands in an
-/// expression: the parameters have an initializer, a default or a computed key. So a reference outside of `with` stands apart.
+/// A reference that stands among the parameters of a function stands in an expression: the parameters have an initializer, a default
+/// or a computed key.
 pub fn references_stand_in_expressions()
     ensures { (p : Tree) (name : Name) → first_fault p ≡ None → is_ecmascript p ≡ true
-        → keys_are_marked p.root.children ≡ true → IsReadOutsideWith p name → AllStandApart p name }
+        → AllStandInExpressions p name }
 {}
 
-/// Of a name that isn't tangled, and that the program binds so, tables and language agree on each reference. That it isn't
-/// tangled says that no reference of it stands in a `with`, that no `var` of it passes a clause whose plain parameter it is, and
-/// that it isn't `arguments`. That keys are marked is left to the program: each source has it so.
+/// Of a name that isn't tangled, tables and language agree on each reference. That it isn't tangled says that no reference of it
+/// stands in a `with`, that no `var` of it passes a clause whose plain parameter it is, that nothing else of it is bound on the way of
+/// a function that leaves its block, be it the body of an `if`, and that it isn't `arguments`. Blocks and functions in a `with` may
+/// declare it. Where it is tangled by a `with` alone, they agree on what it means if the object hasn't it. Left to the program are
+/// early errors: a `var` that clashes, and functions where no grammar has them.
 pub fn untangled_names_agree()
-    ensures { (p : Tree) (name : Name) → first_fault p ≡ None → is_ecmascript p ≡ true
-        → IsNumbered p.root
-        → keys_are_marked p.root.children ≡ true → tangle_reasons p name ≡ []
-        → IsBoundOutsideWith p name → IsBoundPlainly p name → has_clash p name ≡ false
+    ensures untangled { (p : Tree) (name : Name) → first_fault p ≡ None → is_ecmascript p ≡ true
+        → IsNumbered p.root → tangle_reasons p name ≡ []
+        → has_misplaced p name ≡ false → has_clash p name ≡ false
         → differing p name ≡ [] }
+    ensures by_with { (p : Tree) (name : Name) → first_fault p ≡ None → is_ecmascript p ≡ true
+        → IsNumbered p.root → tangle_reasons p name ≡ reason.With ∷ []
+        → has_misplaced p name ≡ false → has_clash p name ≡ false
+        → AgreesPastObjects p name }
 {}

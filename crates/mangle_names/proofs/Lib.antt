@@ -1,3 +1,2 @@
 pub mod AsciiNames
-pub mod NameTexts
 pub mod BarredNames

@@ -5,8 +5,8 @@ ghost use Rattle.semantic_syntax.specs.Reading.{symbol_of};
 ghost use Rattle.mangle_model.specs.GoodNames.{is_free_name, is_kept_name};
 ghost use Rattle.mangle_names.specs.Marks.{is_number_marked};
 
-use crate::name_set::NameSet;
 use crate::numbers::is_marked;
+use name_sets::NameSet;
 use scoping::Scoping;
 use semantic_syntax::SymbolId;
 use std::alloc::{AllocError, Global};

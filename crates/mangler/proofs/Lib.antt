@@ -6,7 +6,6 @@ pub mod PredicateNames
 pub mod SeenSteps
 pub mod Withs
 pub mod PassingNames
-pub mod NamedChildren
 pub mod SeenSets
 pub mod Changes
 pub mod Identified

@@ -5,7 +5,8 @@ ghost use Rattle.mangle_model.specs.Mangling.{all_pass};
 ghost use Rattle.mangle_names.specs.Marks.{is_number_marked};
 ghost use Rattle.mangler.specs.Passing.{good_by, passes_by, passes_option};
 
-use mangle_names::{NameSet, NewNames, is_ascii_identifier, is_marked, is_reserved};
+use mangle_names::{NewNames, is_ascii_identifier, is_marked, is_reserved};
+use name_sets::NameSet;
 
 /// Whether the name is a good one, where those of the set are barred.
 fn is_good_name(barred: &NameSet, name: &str) -> bool

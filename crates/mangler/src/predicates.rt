@@ -3,7 +3,7 @@ ghost use Rattle.std.specs.Prelude.{◌≡◌, ◌||◌, ℕ, List, bytes_eq, On
 ghost use Rattle.std.specs.List.{list_any};
 ghost use Rattle.mangler.specs.Predicates.{predicate_at, predicates_from};
 
-use mangle_names::NameSet;
+use name_sets::NameSet;
 use semantic_tree::{AstType, Node};
 use std::alloc::{AllocError, Global};
 

@@ -16,7 +16,7 @@ ghost use Rattle.mangler.specs.Withs.{EndsWith};
 use crate::predicates::add_predicates;
 use crate::seen_nodes::push_seen;
 use crate::spot::Spot;
-use mangle_names::NameSet;
+use name_sets::NameSet;
 use renamer::Analysed;
 use scoping::Scoping;
 use semantic_queries::node_symbols::exported_names;

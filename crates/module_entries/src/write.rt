@@ -31,8 +31,8 @@ fn write_link<K: Sink>(
         (link_line (chars local.now) link.now) result }
 {
     spell(local);
-    make_link_line(line, local, link)?;
-    line.offer(out)
+    let made = make_link_line(line, local, link);
+    line.offer_made(made, out)
 }
 
 /// Writes the lines on links, whose imports bind the names.

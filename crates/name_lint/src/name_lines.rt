@@ -41,14 +41,14 @@ fn write_symbol<K: Sink>(
     ensures { WritesLines K.held K.faults K.Offered IsNameLine out.old out.new
         (unused_line scoping.now symbol) result }
 {
-    make_name_line(
+    let made = make_name_line(
         line,
         "unused ",
         symbol.index(),
         scoping.symbol_name(symbol),
         scoping.symbol_span(symbol),
-    )?;
-    line.offer(out)
+    );
+    line.offer_made(made, out)
 }
 
 /// Writes the lines of unused symbols.
@@ -79,14 +79,14 @@ fn write_reference<K: Sink>(
         (undeclared_line (map text_of nodes.now) (map span_of nodes.now) reference) result }
 {
     let node = nodes[reference.index()];
-    make_name_line(
+    let made = make_name_line(
         line,
         "undeclared ",
         reference.index(),
         node.text().as_str(),
         node.span(),
-    )?;
-    line.offer(out)
+    );
+    line.offer_made(made, out)
 }
 
 /// Writes the lines of undeclared references; `nodes` are the nodes of all references.

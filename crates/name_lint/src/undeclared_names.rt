@@ -7,8 +7,9 @@ ghost use Rattle.name_lint.specs.Known.{known_names};
 ghost use Rattle.name_lint.specs.Undeclared.{means_arguments, is_known, is_undeclared, undeclared_from};
 
 use crate::id_lists::ReferenceIdList;
-use crate::known_names::KnownNames;
+use crate::known_names::known_names;
 use crate::scope_questions::is_in_function;
+use name_sets::NameSet;
 use scoping::Scoping;
 use semantic_kinds::class::is_word;
 use semantic_syntax::{Ident, Reference, ReferenceFlags, ReferenceId};
@@ -30,16 +31,11 @@ fn means_arguments(scoping: &Scoping, name: Ident<'_>, reference: &Reference) ->
 }
 
 /// Whether the reference is free, of an unknown name, and means no arguments.
-fn is_undeclared(
-    scoping: &Scoping,
-    known: &KnownNames,
-    name: Ident<'_>,
-    reference: &Reference,
-) -> bool
+fn is_undeclared(scoping: &Scoping, known: &NameSet, name: Ident<'_>, reference: &Reference) -> bool
     ensures { result ≡ is_undeclared known.now scoping.now (name_of name.entry) reference.now }
 {
     reference.symbol_id().is_none()
-        && !known.has(name)
+        && !known.has(name.as_str())
         && !means_arguments(scoping, name, reference)
 }
 
@@ -48,7 +44,7 @@ fn undeclared(
     alloc: Global,
     scoping: &Scoping,
     references: &[AstKind<'_>],
-    known: &KnownNames,
+    known: &NameSet,
 ) -> Result<Vec<ReferenceId>, AllocError>
     requires { length references.now ≡ length scoping.now.references }
     ensures { IfOk result (λ found. found.items
@@ -79,7 +75,7 @@ pub fn undeclared_names(
         ≡ undeclared_from (known_names words.now) scoping.now 0
         (map text_of references.now) scoping.now.references) }
 {
-    let known = KnownNames::of(alloc, words)?;
+    let known = known_names(alloc, words)?;
     let found = undeclared(alloc, scoping, references, &known)?;
     Ok(ReferenceIdList::new(found))
 }

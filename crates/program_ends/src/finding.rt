@@ -7,7 +7,8 @@ ghost use Rattle.program_ends.specs.declared.finding.FindingStatus.{FindingStatu
 use crate::status::Status;
 use crate::stops::Stop;
 
-/// How a program ends that looks for findings.
+/// How a program ends that looks for findings. Those of a report are its diagnostics, those of a lint the names that it
+/// tells, and those of a link the imports that come to nothing, or to things that differ.
 #[derive(Clone, Copy, Debug, PartialEq, Eq)]
 pub enum FindingStatus {
     /// 0: the answer is written, and there is no finding.
@@ -16,7 +17,7 @@ pub enum FindingStatus {
     Found,
     /// 2: the words are refused.
     Usage,
-    /// 3: the input is refused.
+    /// 3: the input is no program, or no set of modules that can be linked.
     Tree,
     /// 4: the input is too long.
     TooLong,

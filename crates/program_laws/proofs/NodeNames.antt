@@ -14,7 +14,7 @@ use Rattle.semantic_tree.specs.Views.{is}
 use Rattle.semantic_model.specs.Place as model
 use Rattle.semantic_model.specs.Reference.{Occurrence, reference_at, entered_reference, references}
 use Rattle.semantic_model.specs.Step.{Step, entering, opening, header_ending, closing, leaving, steps}
-use Rattle.semantic_model.specs.TablesOf.{tables_of, entry_of}
+use Rattle.semantic_model.specs.TablesOf.{tables_of, entry_of, made_of}
 use Rattle.semantic_model.proofs.form.Clauses.{kind_is}
 use Rattle.semantic_model.proofs.fits.NothingInvented.{made_declared}
 use Rattle.semantic_model.proofs.fold.Orders.{HasForm}
@@ -26,14 +26,14 @@ use Rattle.program_laws.proofs.TreeNodes.{nodes_from, placed_node, one_node}
 use Rattle.program_laws.proofs.Walked.{steps_within}
 
 -- what is made is of a node
-made_of : (p : Tree) (m : Made) → Among m (run start (events (steps p))).made → IsOf (nodes_from p.root) m.declaration
-made_of p m a = elim (made_declared m start (events (steps p)) a) [ inl k ↦ absurd k | inr k ↦ declaration_of p m.declaration k ]
+pub made_of_node : (p : Tree) (m : Made) → Among m (made_of p) → IsOf (nodes_from p.root) m.declaration
+made_of_node p m a = elim (made_declared m start (events (steps p)) a) [ inl k ↦ absurd k | inr k ↦ declaration_of p m.declaration k ]
 
 pub nodes_have_names : (p : Tree) → HasForm p → IsNumbered p.root → NodesHaveNames p
 nodes_have_names p f n place x s a b =
-    let (m, c, e) = among_map belonging (run start (events (steps p))).made (record { node = x.node_id; number = s }) b in
+    let (m, c, e) = among_map belonging (made_of p) (record { node = x.node_id; number = s }) b in
     let named : IsNamed (tables_of p) m.symbol m.declaration.naming.name = declarations_have_names p f m c in
-    go m (ap (λ y. y.node) e) (ap (λ y. y.number) e) named (made_of p m c)
+    go m (ap (λ y. y.node) e) (ap (λ y. y.number) e) named (made_of_node p m c)
   where
     go : (m : Made) → m.declaration.naming.identifier ≡ x.node_id → m.symbol ≡ s → IsNamed (tables_of p) m.symbol m.declaration.naming.name → IsOf (nodes_from p.root) m.declaration → ((x.kind ≡ kind.BindingIdentifier) × IsNamed (tables_of p) s x.text) ⊎ (x.kind ≡ kind.TSEnumMember)
     go m i j named (of_name y w e h) =

@@ -8,13 +8,11 @@ use Rattle.semantic_tree.specs.Tree.{Tree}
 use Rattle.semantic_tree.specs.declared.node.Node.{Node}
 use Rattle.semantic_tree.specs.declared.place.Place.{Place}
 use Rattle.semantic_model.specs.Entries.{Among}
-use Rattle.semantic_model.specs.Event.{events}
-use Rattle.semantic_model.specs.Fold.{Made, start}
-use Rattle.semantic_model.specs.Hoist.{run}
+use Rattle.semantic_model.specs.Fold.{Made}
 use Rattle.semantic_model.specs.NodeTable.{Belongs, node_tables}
 use Rattle.semantic_model.specs.Reference.{Occurrence, references}
 use Rattle.semantic_model.specs.Step.{steps}
-use Rattle.semantic_model.specs.TablesOf.{tables_of}
+use Rattle.semantic_model.specs.TablesOf.{tables_of, made_of}
 
 -- the symbol is there, and has the name
 pub record IsNamed (t : Tables) (s : ℕ) (x : Name) : Type 0 where
@@ -28,7 +26,7 @@ TiesHaveNames p = (n s : ℕ) (r : Occurrence) (e : Reference) → slice_get (re
 
 -- the symbol of a declaration has the declared name
 abbrev pub DeclarationsHaveNames : Tree → Type 0
-DeclarationsHaveNames p = (m : Made) → Among m (run start (events (steps p))).made → IsNamed (tables_of p) m.symbol m.declaration.naming.name
+DeclarationsHaveNames p = (m : Made) → Among m (made_of p) → IsNamed (tables_of p) m.symbol m.declaration.naming.name
 
 -- a node to which a symbol belongs is a binding identifier of its name, or an enum member
 abbrev pub NodesHaveNames : Tree → Type 0

@@ -1,5 +1,5 @@
--- Nodes that get another name, one by one.
-use Rattle.std.specs.Prelude.{◌≡◌, ◌<◌, ◌^◌, ℕ, [], ◌∷◌, Bool, true, not, ◌&&◌, cond}
+-- Nodes that get other names, one by one.
+use Rattle.std.specs.Prelude.{◌≡◌, ◌<◌, ◌^◌, ℕ, [], ◌∷◌, Option, Bool, true, not, ◌&&◌, cond}
 use Rattle.semantic_kinds.specs.Classes.{holds_kind}
 use Rattle.semantic_kinds.specs.declared.kind.AstType.{AstType}
 use Rattle.semantic_kinds.specs.declared.kind.AstType.TheVariants as kind
@@ -13,6 +13,8 @@ use Rattle.semantic_tree.specs.Forest.{Forest, nothing, tree}
 use Rattle.semantic_tree.specs.declared.node.Node.{Node}
 use Rattle.program_laws.specs.ReadMarks.{without_where}
 use Rattle.rename_model.specs.WithName.{sheds}
+use Rattle.mangle_model.specs.Assignment.{name_or}
+use Rattle.mangle_model.specs.WithNames.{is_given}
 
 -- a property has no other bits than those of marks
 abbrev pub IsKnown : AstType → Marks → Type 0
@@ -23,10 +25,13 @@ abbrev pub AreKnown : Forest → Type 0
 AreKnown nothing = Unit {0}
 AreKnown (tree r k span text marks below id after) = IsKnown k marks × AreKnown below × AreKnown after
 
--- the node, with the name if it is chosen, without its children
-abbrev pub alone : (ℕ → Bool) → Name → Node → Node
-alone chosen name node =
-    record node { text = cond (chosen node.node_id) name node.text; marks = without_where (sheds chosen) mark.Shorthand node; children = nothing }
+-- the node with the name that it is given, without its children
+abbrev pub alone : (ℕ → Option Name) → Node → Node
+alone given node = record node {
+  text = name_or (given node.node_id) node.text;
+  marks = without_where (sheds (is_given given)) mark.Shorthand node;
+  children = nothing;
+}
 
 -- the mark stays where `shorthand` goes
 abbrev pub is_kept : Marks → Mark → Bool

@@ -1,6 +1,6 @@
-//! The program in which a symbol has another name.
+//! The program in which nodes have other names.
 
-ghost use Rattle.std.specs.Prelude.{◌≡◌, ◌<◌, ◌^◌, [], false, None, bytes_eq, IfOk, OnOk};
+ghost use Rattle.std.specs.Prelude.{◌≡◌, ◌<◌, ◌^◌, [], false, Some, None, bytes_eq, cond, IfOk, OnOk};
 ghost use Rattle.std.specs.Str.{chars};
 ghost use Rattle.semantic_kinds.specs.declared.mark.Mark.TheVariants.{Shorthand as shorthand};
 ghost use Rattle.semantic_tree.specs.Faults.{first_fault};
@@ -9,32 +9,44 @@ ghost use Rattle.semantic_tree.specs.Tree.{numbered_tree};
 ghost use Rattle.program_laws.specs.ReadMarks.{without_mark, without_where};
 ghost use Rattle.renamer.specs.Told.{told_by};
 ghost use Rattle.rename_model.specs.Renamed.{bears_name, program_renamed};
-ghost use Rattle.rename_model.specs.WithName.{is_named_value, sheds, with_name, AreIdentifiers};
+ghost use Rattle.rename_model.specs.WithName.{is_named_value, sheds, AreIdentifiers};
+ghost use Rattle.mangle_model.specs.Assignment.{name_or};
+ghost use Rattle.mangle_model.specs.WithNames.{is_given, with_names, with_names_in, AreSomeNames};
 ghost use Rattle.renamer.specs.Renaming.{IsKnown, AreKnown, alone, with_kept};
 
 use crate::analysed::Analysed;
 use crate::bearing::bears_name;
-use semantic_syntax::{SourceType, SymbolId, Text};
+use crate::given_names::GivenNames;
+use semantic_syntax::{NodeId, SourceType, SymbolId, Text};
 use semantic_tree::{AstKind, AstType, Comment, Mark, Marks, Node, Program, Role};
 use std::alloc::{AllocError, Global};
 
-/// Whether a value bears the name of the symbol, or its left does.
-fn is_named_value(analysed: &Analysed<'_>, symbol: SymbolId, value: AstKind<'_>) -> bool
-    ensures { result ≡ is_named_value
-        (bears_name (told_by analysed.now) symbol) value.entry.node.now }
+/// Whether the node is given a name.
+fn is_given<N: GivenNames>(names: &N, node: NodeId) -> bool
+    ensures { result ≡ is_given (N.given names.now) node }
 {
-    if bears_name(analysed, symbol, value.node_id()) {
+    match names.name_of(node) {
+        Some(_) => true,
+        None => false,
+    }
+}
+
+/// Whether a value is given a name, or its left is.
+fn is_named_value<N: GivenNames>(names: &N, value: AstKind<'_>) -> bool
+    ensures { result ≡ is_named_value (is_given (N.given names.now)) value.entry.node.now }
+{
+    if is_given(names, value.node_id()) {
         return true;
     }
     match value.child(Role::Left) {
-        Some(left) => bears_name(analysed, symbol, left.node_id()),
+        Some(left) => is_given(names, left.node_id()),
         None => false,
     }
 }
 
 /// Whether the node is a property that can't be written in short any more.
-fn sheds(analysed: &Analysed<'_>, symbol: SymbolId, node: AstKind<'_>) -> bool
-    ensures { result ≡ sheds (bears_name (told_by analysed.now) symbol) node.entry.node.now }
+fn sheds<N: GivenNames>(names: &N, node: AstKind<'_>) -> bool
+    ensures { result ≡ sheds (is_given (N.given names.now)) node.entry.node.now }
 {
     if !matches!(
         node.ty(),
@@ -43,7 +55,7 @@ fn sheds(analysed: &Analysed<'_>, symbol: SymbolId, node: AstKind<'_>) -> bool
         return false;
     }
     for value in node.children(Role::Value) {
-        if is_named_value(analysed, symbol, value) {
+        if is_named_value(names, value) {
             return true;
         }
     }
@@ -75,12 +87,12 @@ fn without_shorthand(marks: Marks) -> Marks
 }
 
 /// The marks that the node has then.
-fn marks_of(analysed: &Analysed<'_>, symbol: SymbolId, node: AstKind<'_>) -> Marks
+fn marks_of<N: GivenNames>(names: &N, node: AstKind<'_>) -> Marks
     requires { IsKnown node.node.now.kind node.node.now.marks }
-    ensures { result ≡ without_where
-        (sheds (bears_name (told_by analysed.now) symbol)) shorthand node.entry.node.now }
+    ensures { result ≡ without_where (sheds (is_given (N.given names.now))) shorthand
+        node.entry.node.now }
 {
-    if sheds(analysed, symbol, node) {
+    if sheds(names, node) {
         without_shorthand(node.node().marks)
     } else {
         node.node().marks
@@ -88,44 +100,32 @@ fn marks_of(analysed: &Analysed<'_>, symbol: SymbolId, node: AstKind<'_>) -> Mar
 }
 
 /// The text that the node has then.
-fn text_of<'a>(analysed: &Analysed<'_>, symbol: SymbolId, new: &'a str, node: &'a Node) -> &'a str
-    ensures { chars result.now ≡
-        (alone (bears_name (told_by analysed.now) symbol) (chars new.now) node.now).text }
+fn text_of<'a, N: GivenNames>(names: &'a N, node: &'a Node) -> &'a str
+    ensures { chars result.now ≡ name_or (N.given names.now node.now.node_id) node.now.text }
 {
-    if bears_name(analysed, symbol, node.node_id) {
-        new
-    } else {
-        node.text.as_str()
+    match names.name_of(node.node_id) {
+        Some(name) => name,
+        None => node.text.as_str(),
     }
 }
 
 /// The node, without its children.
-fn renamed_alone(
-    alloc: Global,
-    analysed: &Analysed<'_>,
-    symbol: SymbolId,
-    new: &str,
-    node: &Node,
-) -> Result<Node, AllocError>
+fn renamed_alone<N: GivenNames>(alloc: Global, names: &N, node: &Node) -> Result<Node, AllocError>
     requires { IsKnown node.now.kind node.now.marks }
-    ensures { IfOk result (λ made. made
-        ≡ alone (bears_name (told_by analysed.now) symbol) (chars new.now) node.now) }
+    ensures { IfOk result (λ made. made ≡ alone (N.given names.now) node.now) }
 {
-    let text = text_of(analysed, symbol, new, node);
-    let marks = marks_of(analysed, symbol, AstKind::new(node));
+    let text = text_of(names, node);
+    let marks = marks_of(names, AstKind::new(node));
     let mut made = Node::new(alloc, node.kind, node.span, text, marks)?;
     made.node_id = node.node_id;
     Ok(made)
 }
 
-/// Adds the children of a node to another one, in which those that bear the name of the symbol have the new one. For
-/// want of memory some may be added.
+/// Adds the children of a node to another one, with their new names. For want of memory some may be added.
 #[tactic(auto, using(semantic_tree::specs::Falls::below))]
-fn push_renamed(
+fn push_renamed<N: GivenNames>(
     alloc: Global,
-    analysed: &Analysed<'_>,
-    symbol: SymbolId,
-    new: &str,
+    names: &N,
     from: &Node,
     into: &mut Node,
 ) -> Result<(), AllocError>
@@ -133,13 +133,12 @@ fn push_renamed(
     ensures { OnOk result (into.new
         ≡ record into.old {
           children = join into.old.children
-              (with_name (bears_name (told_by analysed.now) symbol)
-              (chars new.now) from.now.children);
+              (with_names (N.given names.now) from.now.children);
         }) }
 {
     for (role, child) in from.children.as_slice() {
-        let mut copy = renamed_alone(alloc, analysed, symbol, new, child)?;
-        push_renamed(alloc, analysed, symbol, new, child, &mut copy)?;
+        let mut copy = renamed_alone(alloc, names, child)?;
+        push_renamed(alloc, names, child, &mut copy)?;
         match into.push(*role, copy) {
             Ok(()) => {}
             Err(_) => return Err(AllocError),
@@ -148,24 +147,17 @@ fn push_renamed(
     Ok(())
 }
 
-/// The root of the program in which the symbol has the name.
-fn renamed_root(
-    alloc: Global,
-    analysed: &Analysed<'_>,
-    symbol: SymbolId,
-    new: &str,
-    root: &Node,
-) -> Result<Node, AllocError>
+/// The root of the program with the new names.
+fn renamed_root<N: GivenNames>(alloc: Global, names: &N, root: &Node) -> Result<Node, AllocError>
     requires { AreKnown root.now.children }
     ensures { IfOk result (λ made. made
         ≡ record root.now {
-          children = with_name (bears_name (told_by analysed.now) symbol)
-              (chars new.now) root.now.children;
+          children = with_names (N.given names.now) root.now.children;
           node_id = 0;
         }) }
 {
     let mut made = Node::new(alloc, root.kind, root.span, root.text.as_str(), root.marks)?;
-    push_renamed(alloc, analysed, symbol, new, root, &mut made)?;
+    push_renamed(alloc, names, root, &mut made)?;
     Ok(made)
 }
 
@@ -198,6 +190,44 @@ fn program_of(
     }
 }
 
+/// The program in which nodes have their new names, which aren't empty. All nodes that are given one are identifiers, so
+/// the program has no fault.
+pub fn with_names_in<N: GivenNames>(
+    alloc: Global,
+    program: &Program,
+    names: &N,
+) -> Result<Program, AllocError>
+    requires some { AreSomeNames (N.given names.now) }
+    requires identifiers { AreIdentifiers (is_given (N.given names.now)) program.now.root.children }
+    ensures { IfOk result (λ made. made ≡ with_names_in (N.given names.now) program.now) }
+{
+    let root = renamed_root(alloc, names, program.root().node())?;
+    let source = Text::new(alloc, program.source_text())?;
+    let comments = Vec::from_slice(alloc, program.comments())?;
+    Ok(program_of(alloc, source, program.source_type(), comments, root))
+}
+
+/// The name of a symbol, for the nodes that bear it.
+#[derive(Drop)]
+struct OneName<'a> {
+    analysed: &'a Analysed<'a>,
+    symbol: SymbolId,
+    new: &'a str,
+}
+
+impl<'a> GivenNames for OneName<'a> {
+    ghost given = { λ one id.
+        cond (bears_name (told_by one.analysed.now) one.symbol id) (Some (chars one.new.now)) None };
+
+    fn name_of(&self, node: NodeId) -> Option<&str> {
+        if bears_name(self.analysed, self.symbol, node) {
+            Some(self.new)
+        } else {
+            None
+        }
+    }
+}
+
 /// The program in which the symbol has the name, which isn't empty. All nodes that bear the symbol's name are
 /// identifiers, so the program has no fault.
 pub fn renamed(
@@ -213,8 +243,11 @@ pub fn renamed(
     ensures { IfOk result (λ made. made
         ≡ program_renamed program.now (told_by analysed.now) symbol (chars new.now)) }
 {
-    let root = renamed_root(alloc, analysed, symbol, new, program.root().node())?;
-    let source = Text::new(alloc, program.source_text())?;
-    let comments = Vec::from_slice(alloc, program.comments())?;
-    Ok(program_of(alloc, source, program.source_type(), comments, root))
+    let one = OneName {
+        analysed,
+        symbol,
+        new,
+    };
+    let made = with_names_in(alloc, program, &one)?;
+    Ok(made)
 }

@@ -40,7 +40,7 @@ use Rattle.rename_model.specs.Same.{Same}
 use Rattle.rename_model.specs.WithName.{sheds, with_name}
 use Rattle.rename_model.proofs.Refusals.{ends_renamed, free_means_none, none_means_free, renames}
 use Rattle.renaming_laws.specs.WrittenOut.{written_out}
-use Rattle.renaming_laws.proofs.AlikeRows.{parent_kind}
+use Rattle.semantic_model.proofs.swapped.AlikeBinder.{parent_kind}
 use Rattle.renaming_laws.proofs.GoingBack.{same_bearers, renamed_back}
 use Rattle.renaming_laws.proofs.KeptConflicts.{keeps_read, in_common}
 use Rattle.renaming_laws.proofs.SameSymbols.{id_within}

@@ -16,14 +16,13 @@ use Rattle.semantic_model.specs.Hoist.{act, run}
 use Rattle.semantic_model.specs.Namespace.{InstanceState, non_instantiated, const_enum_only, instantiated, instance_state, nodes_around}
 use Rattle.semantic_model.specs.Place.{Place, OpenScope, innermost, outside}
 use Rattle.semantic_model.specs.Step.{Step, entering, opening, header_ending, closing, leaving, steps}
+use Rattle.semantic_model.specs.TablesOf.{made_of}
 use Rattle.semantic_model.proofs.form.Clauses.{kind_is}
 use Rattle.semantic_model.proofs.steps.Compose.{flat-append}
 use Rattle.semantic_model.proofs.swapped.Alike.{map_append}
-use Rattle.semantic_model.proofs.swapped.AlikeBinder.{renamed_declaration}
+use Rattle.semantic_model.proofs.swapped.AlikeBinder.{renamed_declaration, ren}
 use Rattle.semantic_model.proofs.swapped.AlikeSteps.{SamePlace, AlikeSteps}
-use Rattle.renaming_laws.specs.InBlocks.{made_in}
-use Rattle.renaming_laws.proofs.AlikeRows.{ren}
-use Rattle.renaming_laws.proofs.AlikeDeclarations.{namespace_same, facts, entering_same, opening_same}
+use Rattle.semantic_model.proofs.swapped.AlikeDeclares.{namespace_same, facts, entering_same, opening_same}
 use Rattle.renaming_laws.proofs.Looks.{gets, made_by}
 
 -- the node of a name, and the name
@@ -111,7 +110,7 @@ all_pairs : (ds new : List Declaration) → pairs (declarations (declares_all ds
 all_pairs ds [] = refl
 all_pairs ds (d ∷ new) = λ i. placed_pair d.how ds d i ∷ all_pairs ds new i
 
-taken_none : (p : Place) (s : OpenScope) → declarations (taken_over p s) ≡ []
+pub taken_none : (p : Place) (s : OpenScope) → declarations (taken_over p s) ≡ []
 taken_none p s = go (is_catch_body p)
   where
     go : (b : Bool) → declarations (cond b (takes_over (innermost p.chain).number s.number ∷ []) []) ≡ []
@@ -135,5 +134,5 @@ event_pairs ds (s ∷ ss) =
     ∙ (λ i. step_pairs ds s i ++ event_pairs ds ss i)
     ∙ sym (map_append pair (declared_at s) (written_declarations ss))
 
-pub program_pairs : (p : Tree) → map made_pair (made_in p) ≡ pairs (written_declarations (steps p))
+pub program_pairs : (p : Tree) → map made_pair (made_of p) ≡ pairs (written_declarations (steps p))
 program_pairs p = made_pairs (events (steps p)) start ∙ event_pairs (written_declarations (steps p)) (steps p)

@@ -1,10 +1,11 @@
 -- Each symbol has the flags of its declarations, where a `var` finds on its way only what has its own.
-use Rattle.std.proofs.Common.{◌≡◌, ℕ, zero, suc, ◌≤◌, ◌<◌, List, [], ◌∷◌, Option, Some, None, inl, inr, ◌⊎◌, length, refl, sym, ap, subst, ◌∙◌, arith, bit_or}
+use Rattle.std.proofs.Common.{◌≡◌, ℕ, zero, suc, ◌≤◌, ◌<◌, List, [], ◌∷◌, ◌++◌, Option, Some, None, inl, inr, ◌⊎◌, length, true, false, refl, sym, ap, subst, ◌∙◌, arith, bit_or}
 use Rattle.std.specs.Int.{bit_at}
 use Rattle.std.specs.Prelude.{slice_get}
+use Rattle.std.proofs.lemmas.Bool.{cases_Bool}
 use Rattle.std.proofs.lemmas.List.{length-map}
 use Rattle.std.proofs.lemmas.Nat.Bits.{bit_at_or, same_from_bits}
-use Rattle.semantic_syntax.specs.Sets.{union}
+use Rattle.semantic_syntax.specs.Sets.{meets, union}
 use Rattle.semantic_syntax.specs.Tables.{Symbol}
 use Rattle.semantic_syntax.specs.declared.symbol_flags.TheConstants.SymbolFlags as symbol
 use Rattle.semantic_model.specs.Binding.{bound_by}
@@ -21,8 +22,9 @@ use Rattle.semantic_model.proofs.fold.Changes.{Has, HasName, Sound, sound_start}
 use Rattle.semantic_model.proofs.fold.TakeOvers.{IsReady, sound_act}
 use Rattle.semantic_model.proofs.lists.Bounds.{IsSound}
 use Rattle.semantic_model.proofs.lists.Growth.{act_grows, start_is_sound}
-use Rattle.semantic_model.proofs.lists.Members.{among_more, contains_first, contains_right}
+use Rattle.semantic_model.proofs.lists.Members.{among_left, among_right, among_more, contains_first, contains_right}
 use Rattle.semantic_model.proofs.lists.SymbolLaws.{get_within}
+use Rattle.binding_laws.proofs.Growing.{meets_neither}
 use Rattle.renaming_laws.specs.InBlocks.{ShareFlags}
 use Rattle.renaming_laws.specs.KeptDeclarations.{declared_as}
 use Rattle.renaming_laws.proofs.Looks.{looks, joined, gets, HasFlagsOf, looks_by, made_by, rescoped_looks, gets_within, gets_passed, passed_kept}
@@ -62,15 +64,15 @@ no_look l e = cc
 data After (r : ℕ) (n : Naming) (ls : List Symbol) (j : ℕ) (l : Symbol) : Type 0 where
   as_before : slice_get ls j ≡ Some l → After r n ls j l
   is_joined : (k : Symbol) → j ≡ r → slice_get ls r ≡ Some k → l.flags.bits ≡ union k.flags.bits n.flags → After r n ls j l
-  is_new : j ≡ length ls → After r n ls j l
+  is_new : j ≡ length ls → length ls ≤ r → l.flags.bits ≡ n.flags → After r n ls j l
 
 later : (r : ℕ) (n : Naming) (ls : List Symbol) (j : ℕ) (x l : Symbol) → After r n ls j l → After (suc r) n (x ∷ ls) (suc j) l
 later r n ls j x l (as_before e) = as_before e
 later r n ls j x l (is_joined k i e f) = is_joined k (ap suc i) e f
-later r n ls j x l (is_new i) = is_new (ap suc i)
+later r n ls j x l (is_new i k f) = is_new (ap suc i) (omega (arith, k)) f
 
 after_at : (r : ℕ) (n : Naming) (ls : List Symbol) (j : ℕ) (l : Symbol) → slice_get (joined r n ls) j ≡ Some l → After r n ls j l
-after_at r n [] zero l e = is_new refl
+after_at r n [] zero l e = is_new refl (omega arith) (sym (ap (λ (k : Symbol). k.flags.bits) (some_look (declared_as (new_symbol 0 n)) l e)))
 after_at r n [] (suc j) l e = absurd (no_look l e)
 after_at zero n (x ∷ ls) zero l e = is_joined x refl refl (sym (ap (λ (k : Symbol). k.flags.bits) (some_look (united n.flags (redeclared n x)) l e)))
 after_at zero n (x ∷ ls) (suc j) l e = as_before e
@@ -94,6 +96,25 @@ all_in_themselves : (cs : List OpenScope) → AllIn (numbers cs) cs
 all_in_themselves [] = tt
 all_in_themselves (c ∷ cs) = (contains_first c.number (numbers cs), more_in c.number (numbers cs) cs (all_in_themselves cs))
 
+-- a declaration that gave a flag to its symbol
+pub record Source (ms : List Made) (r f : ℕ) : Type 0 where
+  pub made : Made
+  pub among : Among made ms
+  pub symbol : made.symbol ≡ r
+  pub has : meets made.declaration.naming.flags f ≡ true
+
+source_more : (ms : List Made) (m : Made) (r f : ℕ) → Source ms r f → Source (ms ++ m ∷ []) r f
+source_more ms m r f w = record { made = w.made; among = among_left w.made ms (m ∷ []) w.among; symbol = w.symbol; has = w.has }
+
+-- flags of two sets are of one of them
+either_meets : (a b f : ℕ) → meets (union a b) f ≡ true → (meets a f ≡ true) ⊎ (meets b f ≡ true)
+either_meets a b f h = go (cases_Bool (meets a f)) (cases_Bool (meets b f))
+  where
+    go : (meets a f ≡ true) ⊎ (meets a f ≡ false) → (meets b f ≡ true) ⊎ (meets b f ≡ false) → (meets a f ≡ true) ⊎ (meets b f ≡ true)
+    go (inl i) k = inl i
+    go (inr i) (inl j) = inr j
+    go (inr i) (inr j) = let w : true ≡ false = sym h ∙ meets_neither a b f i j in absurd cc
+
 -- ---- states
 
 module _ (table : List (Option ℕ)) where
@@ -101,10 +122,11 @@ module _ (table : List (Option ℕ)) where
   pub record Holds (st : State) : Type 0 where
     pub bounded : IsSound st
     pub sound : Sound table st
+    pub sourced : (r : ℕ) (l : Symbol) → slice_get (looks st.symbols) r ≡ Some l → (f : ℕ) → meets l.flags.bits f ≡ true → Source st.made r f
     pub flags : (m : Made) → Among m st.made → (l : Symbol) → slice_get (looks st.symbols) m.symbol ≡ Some l → union l.flags.bits m.declaration.naming.flags ≡ l.flags.bits
 
   pub holds_start : Holds start
-  holds_start = record { bounded = start_is_sound; sound = sound_start table; flags = λ m a l e. absurd a }
+  holds_start = record { bounded = start_is_sound; sound = sound_start table; sourced = λ r l e f h. absurd (no_look l e); flags = λ m a l e. absurd a }
 
   pub holds_taken : (st : State) (c b : ℕ) → IsReady table st (takes_over c b) → Holds st → Holds (act st (takes_over c b))
   holds_taken st c b ready w =
@@ -112,6 +134,7 @@ module _ (table : List (Option ℕ)) where
       record {
         bounded = (act_grows st (takes_over c b) w.bounded).sound;
         sound = sound_act table st (takes_over c b) ready w.sound;
+        sourced = λ r l e f h. w.sourced r l (sym (ap (λ ls. slice_get ls r) same) ∙ e) f h;
         flags = λ m a l e. w.flags m a l (sym (ap (λ ls. slice_get ls m.symbol) same) ∙ e);
       }
 
@@ -149,6 +172,7 @@ module _ (table : List (Option ℕ)) where
     holds_next st d w t = record {
       bounded = (act_grows st (declares d) w.bounded).sound;
       sound = sound_act table st (declares d) t.ready w.sound;
+      sourced = λ r l e f h. subst (λ ms. Source ms r f) (sym (made_by d.how st d)) (found_source r l f h (after_at (gets d.how st d) d.naming (looks st.symbols) r l (sym (ap (λ ls. slice_get ls r) (looks_next st d w t)) ∙ e)));
       flags = λ m a l e. go m l (among_more m own st.made (subst (Among m) (made_by d.how st d) a)) (sym (ap (λ ls. slice_get ls m.symbol) (looks_next st d w t)) ∙ e);
     }
       where
@@ -171,7 +195,18 @@ module _ (table : List (Option ℕ)) where
             ap (λ x. union x m.declaration.naming.flags) f
             ∙ absorbed k.flags.bits d.naming.flags m.declaration.naming.flags (w.flags m a k (ap (slice_get (looks st.symbols)) i ∙ q))
             ∙ sym f
-        old m a l (is_new i) = absurd (not_new m a i)
+        old m a l (is_new i k f) = absurd (not_new m a i)
+
+        own_source : (r f : ℕ) → gets d.how st d ≡ r → meets d.naming.flags f ≡ true → Source (st.made ++ own ∷ []) r f
+        own_source r f e h = record { made = own; among = among_right own st.made (own ∷ []) (inl refl); symbol = e; has = h }
+
+        found_source : (r : ℕ) (l : Symbol) (f : ℕ) → meets l.flags.bits f ≡ true → After (gets d.how st d) d.naming (looks st.symbols) r l → Source (st.made ++ own ∷ []) r f
+        found_source r l f h (as_before q) = source_more st.made own r f (w.sourced r l q f h)
+        found_source r l f h (is_joined k i q g) = elim (either_meets k.flags.bits d.naming.flags f (sym (ap (λ n. meets n f) g) ∙ h)) [
+          | inl a ↦ source_more st.made own r f (w.sourced r k (ap (slice_get (looks st.symbols)) i ∙ q) f a)
+          | inr a ↦ own_source r f (sym i) a
+        ]
+        found_source r l f h (is_new i k g) = own_source r f (omega (arith, i, k, within)) (sym (ap (λ n. meets n f) g) ∙ h)
 
         go : (m : Made) (l : Symbol) → Among m st.made ⊎ (own ≡ m) → slice_get (joined (gets d.how st d) d.naming (looks st.symbols)) m.symbol ≡ Some l → union l.flags.bits m.declaration.naming.flags ≡ l.flags.bits
         go m l (inl a) e = old m a l (after_at (gets d.how st d) d.naming (looks st.symbols) m.symbol l e)

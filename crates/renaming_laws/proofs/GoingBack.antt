@@ -62,7 +62,7 @@ module _ (a b : ℕ → Bool) where
   agree_named chosen name (tree r k span text marks below id after) h = (h.0, agree_named chosen name below h.1, agree_named chosen name after h.2)
 
 -- the chosen nodes of a forest have the text
-abbrev HaveText : (ℕ → Bool) → Name → Forest → Type 0
+abbrev pub HaveText : (ℕ → Bool) → Name → Forest → Type 0
 HaveText chosen old nothing = Unit {0}
 HaveText chosen old (tree r k span text marks below id after) = (chosen id ≡ true → text ≡ old) × HaveText chosen old below × HaveText chosen old after
 
@@ -108,7 +108,7 @@ module _ (p : Tree) (faultless : first_fault p ≡ None) (numbered : IsNumbered 
     abbrev Inside : Place → AstType → Forest → Type 0
     Inside place k f = (here : Place) (x : Node) → Among (here, x) (placed_below place k f) → Among (here, x) (all_placed p.root)
 
-    have_text : (place : Place) (k : AstType) (f : Forest) → Inside place k f → HaveText chosen y.name f
+    pub have_text : (place : Place) (k : AstType) (f : Forest) → Inside place k f → HaveText chosen y.name f
     have_text place k nothing h = tt
     have_text place k (tree r k2 span text marks below id after) h =
         let x : Node = record { kind = k2; span = span; text = text; marks = marks; children = below; node_id = id } in

@@ -35,7 +35,7 @@ use Rattle.semantic_model.specs.NamespaceStates.{namespace_states}
 use Rattle.semantic_model.specs.NodeTable.{belonging}
 use Rattle.semantic_model.specs.Place.{Place}
 use Rattle.semantic_model.specs.Step.{Step, entering, opening, header_ending, closing, leaving, steps}
-use Rattle.semantic_model.specs.TablesOf.{tables_of}
+use Rattle.semantic_model.specs.TablesOf.{tables_of, made_of}
 use Rattle.semantic_model.proofs.fold.Orders.{table_of, orderly_events}
 use Rattle.semantic_model.proofs.form.Shape.{has_form}
 use Rattle.semantic_model.proofs.swapped.AlikeProgram.{program_steps}
@@ -46,7 +46,7 @@ use Rattle.program_laws.specs.Remarked.{remarked}
 use Rattle.program_laws.specs.SameAnalysis.{conflicts_of, HaveSameAnalysis}
 use Rattle.program_laws.proofs.DeclaredNodes.{among_flat, IsOf, of_name, of_member}
 use Rattle.program_laws.proofs.EventMarks.{events_same}
-use Rattle.program_laws.proofs.NodeNames.{tied_nodes_have_names}
+use Rattle.program_laws.proofs.NodeNames.{tied_nodes_have_names, made_of_node}
 use Rattle.program_laws.proofs.StepMarks.{steps_same}
 use Rattle.program_laws.proofs.TableMarks.{same_unmarked}
 use Rattle.program_laws.proofs.TreeNodes.{nodes_from}
@@ -61,14 +61,14 @@ use Rattle.rename_model.proofs.Entered.{place_of}
 use Rattle.rename_model.proofs.NameShape.{identifier_cases}
 use Rattle.rename_model.proofs.NamedNodes.{some_is, Tells, declares, is_tied, tells, symbol_named}
 use Rattle.rename_model.proofs.Refusals.{ends_renamed, none_means_free}
-use Rattle.renaming_laws.specs.InBlocks.{made_in, ShareFlags}
+use Rattle.renaming_laws.specs.InBlocks.{ShareFlags}
 use Rattle.renaming_laws.specs.KeptConflicts.{IsRenamedConflict, AreRenamedConflicts}
-use Rattle.renaming_laws.proofs.AlikeRows.{ren}
+use Rattle.semantic_model.proofs.swapped.AlikeBinder.{ren}
 use Rattle.renaming_laws.proofs.DeclaredPairs.{pairs, made_pair, written_pairs, program_pairs}
 use Rattle.renaming_laws.proofs.GoingBack.{root_marks}
 use Rattle.renaming_laws.proofs.GoodRows.{TellsChosen, KnownPlace, declared_good, inside_good}
 use Rattle.renaming_laws.proofs.SameConflicts.{Twinned, AllTwinned, AreTwins, same_conflicts}
-use Rattle.renaming_laws.proofs.SameSymbols.{number_there, symbol_there, made_of_node, same_symbols}
+use Rattle.renaming_laws.proofs.SameSymbols.{number_there, symbol_there, same_symbols}
 use Rattle.renaming_laws.proofs.Signed.{unsigned, given, signed, signs_taken, names_given, Good, each_good, member_inside, member_unchosen, IsKept, labels_kept}
 use Rattle.renaming_laws.proofs.Twins.{nameless, TwinSteps, twin_steps, TwinEvents, events_twins, no_states}
 use Rattle.renaming_laws.proofs.VarRows.{program_rows}
@@ -109,7 +109,7 @@ module _ (chosen : ℕ → Bool) (new : Name) where
       let node : Node = record { kind = k; span = span; text = text; marks = marks; children = below; node_id = id } in
       λ i. tree r k span (cond (chosen id) new text) (without_where (sheds chosen) mark.Shorthand node) (shed_first below i) id (shed_first after i)
 
-  still_identifiers : (g : Node → Marks) (f : Forest) → AreIdentifiers chosen f → AreIdentifiers chosen (remarked g f)
+  pub still_identifiers : (g : Node → Marks) (f : Forest) → AreIdentifiers chosen f → AreIdentifiers chosen (remarked g f)
   still_identifiers g nothing h = tt
   still_identifiers g (tree r k span text marks below id after) h = (h.0, still_identifiers g below h.1, still_identifiers g after h.2)
 
@@ -153,12 +153,12 @@ module _ (p : Tree) (faultless : first_fault p ≡ None) (numbered : IsNumbered 
         ∙ nameless_same chosen_here new setting (remarked shed p.root.children) (still_identifiers chosen_here new shed p.root.children (are_identifiers p faultless numbered s y there free)) in
         λ i. record p { root = record p.root { text = renamed_text nameless Elsewhere role.Root p.root.kind p.root.text; marks = sym (root_marks chosen_here p.root is_program) i; children = below i } }
 
-    walked : TwinSteps nameless (steps unmarked) (steps q)
+    pub walked : TwinSteps nameless (steps unmarked) (steps q)
     walked =
         twin_steps nameless (steps unmarked) (steps q) (steps (renamed_tree nameless unmarked)) (program_steps nameless unmarked)
         (subst (λ t. AlikeSteps nameless (steps q) (steps t)) in_common (program_steps nameless q))
 
-    same_made : events (steps unmarked) ≡ events (steps p)
+    pub same_made : events (steps unmarked) ≡ events (steps p)
     same_made = let keeps : KeepsRead shed = keeps_read (sheds chosen_here) in ap events (steps_same shed keeps p) ∙ events_same shed keeps (steps p)
 
     -- the events are the same, but for names
@@ -249,18 +249,18 @@ module _ (p : Tree) (faultless : first_fault p ≡ None) (numbered : IsNumbered 
     told_by_signs [] h = refl
     told_by_signs (d ∷ ds) h = λ i. sym (h d (inl refl)) i ∷ told_by_signs ds (λ e a. h e (inr a)) i
 
-    pub names_now : map now_named (made_in p) ≡ map own_name (made_in q)
+    pub names_now : map now_named (made_of p) ≡ map own_name (made_of q)
     names_now =
         let signed_steps : List Step = steps signed_tree in
         let old : pairs (written_declarations (steps unmarked)) ≡ pairs (ren unsigned (written_declarations signed_steps)) = written_pairs unsigned signed_steps (steps unmarked) (subst (λ t. AlikeSteps unsigned signed_steps (steps t)) old_names (program_steps unsigned signed_tree)) in
         let fresh : pairs (written_declarations (steps q)) ≡ pairs (ren (given new) (written_declarations signed_steps)) = written_pairs (given new) signed_steps (steps q) (subst (λ t. AlikeSteps (given new) signed_steps (steps t)) new_names (program_steps (given new) signed_tree)) in
-        let of_old : map made_pair (made_in p) ≡ pairs (ren unsigned (written_declarations signed_steps)) = ap (λ es. map made_pair (run start es).made) (sym same_made) ∙ program_pairs unmarked ∙ old in
-        now_by_pairs (made_in p) ∙ ap (map (λ (x : ℕ × Name). cond (chosen_here x.0) new x.1)) of_old
+        let of_old : map made_pair (made_of p) ≡ pairs (ren unsigned (written_declarations signed_steps)) = ap (λ es. map made_pair (run start es).made) (sym same_made) ∙ program_pairs unmarked ∙ old in
+        now_by_pairs (made_of p) ∙ ap (map (λ (x : ℕ × Name). cond (chosen_here x.0) new x.1)) of_old
         ∙ told_by_signs (written_declarations signed_steps) all_good
-        ∙ ap (map (λ (x : ℕ × Name). x.1)) (sym (program_pairs q ∙ fresh)) ∙ sym (own_by_pairs (made_in q))
+        ∙ ap (map (λ (x : ℕ × Name). x.1)) (sym (program_pairs q ∙ fresh)) ∙ sym (own_by_pairs (made_of q))
 
     -- a declaration of another symbol has no chosen node
-    pub chosen_is : (m : Made) → Among m (made_in p) → chosen_here m.declaration.naming.identifier ≡ (m.symbol == s)
+    pub chosen_is : (m : Made) → Among m (made_of p) → chosen_here m.declaration.naming.identifier ≡ (m.symbol == s)
     chosen_is m a = go (chosen_here id) refl (eqb_tells m.symbol s)
       where
         id : ℕ
@@ -280,7 +280,7 @@ module _ (p : Tree) (faultless : first_fault p ≡ None) (numbered : IsNumbered 
             other (tied_nodes_have_names p (has_form p faultless) numbered place x s r d b (i ∙ e) j).0
 
         same_symbol : Tells (analysis_of p) s id → m.symbol ≡ s
-        same_symbol (declares b) = some_is m.symbol s (sym there_too ∙ number_there (map belonging (made_in p)) id s (symbols_times id p faultless numbered) b)
+        same_symbol (declares b) = some_is m.symbol s (sym there_too ∙ number_there (map belonging (made_of p)) id s (symbols_times id p faultless numbered) b)
         same_symbol (is_tied r b i j) = absurd (no_tie r b i j)
 
         go : (c : Bool) → chosen_here id ≡ c → (((m.symbol == s) ≡ true) × (m.symbol ≡ s)) ⊎ (((m.symbol == s) ≡ false) × (m.symbol ≡ s → ⊥)) → chosen_here id ≡ (m.symbol == s)
@@ -289,7 +289,7 @@ module _ (p : Tree) (faultless : first_fault p ≡ None) (numbered : IsNumbered 
         go false e (inl k) = absurd (differ (sym e ∙ symbol_named (analysis_of p) s id (there_too ∙ ap Some k.1)))
         go false e (inr k) = e ∙ sym k.0
 
-    pub are_twins : first_fault q ≡ None → Same p q → namespace_states (steps q) ≡ namespace_states (steps p) → ShareFlags (made_in p) → ShareFlags (made_in q) → AreTwins (events (steps p)) (events (steps q)) now_named own_name (table_of p) (table_of q)
+    pub are_twins : first_fault q ≡ None → Same p q → namespace_states (steps q) ≡ namespace_states (steps p) → ShareFlags (made_of p) → ShareFlags (made_of q) → AreTwins (events (steps p)) (events (steps q)) now_named own_name (table_of p) (table_of q)
     are_twins faultless' same e share others =
         let t : TwinEvents (events (steps p)) (events (steps q)) = twin_events e in
         record {
@@ -305,7 +305,7 @@ module _ (p : Tree) (faultless : first_fault p ≡ None) (numbered : IsNumbered 
         }
 
     -- each with the name of its symbol
-    told : (c e : Conflict) → Twinned (made_in p) (made_in q) now_named own_name c e → IsRenamedConflict p s new c e
+    pub told : (c e : Conflict) → Twinned (made_of p) (made_of q) now_named own_name c e → IsRenamedConflict p s new c e
     told c e w = record {
       made = w.made;
       among = w.among;
@@ -318,28 +318,31 @@ module _ (p : Tree) (faultless : first_fault p ≡ None) (numbered : IsNumbered 
       };
     }
 
-    all_told : (cs es : List Conflict) → AllTwinned (made_in p) (made_in q) now_named own_name cs es → AreRenamedConflicts p s new cs es
+    all_told : (cs es : List Conflict) → AllTwinned (made_of p) (made_of q) now_named own_name cs es → AreRenamedConflicts p s new cs es
     all_told [] [] h = tt
     all_told [] (e ∷ es) h = absurd h
     all_told (c ∷ cs) [] h = absurd h
     all_told (c ∷ cs) (e ∷ es) h = (told c e h.0, all_told cs es h.1)
 
-  pub conflicts_kept : (r : Tree) → rename p s new ≡ Ok r → namespace_states (steps r) ≡ namespace_states (steps p) → ShareFlags (made_in p) → ShareFlags (made_in r) → AreRenamedConflicts p s new (conflicts_of p) (conflicts_of r)
+  pub conflicts_kept : (r : Tree) → rename p s new ≡ Ok r → namespace_states (steps r) ≡ namespace_states (steps p) → ShareFlags (made_of p) → ShareFlags (made_of r) → AreRenamedConflicts p s new (conflicts_of p) (conflicts_of r)
   conflicts_kept r h e share others =
       let (bad, none, same, is) = ends_renamed p s new r h in
       let free : first_fixed (exported_names (steps p)) (bears_name (analysis_of p) s) (steps p) ≡ None = none_means_free p s none in
       let same' : Same p q = subst (Same p) is same in
       let e' : namespace_states (steps q) ≡ namespace_states (steps p) = subst (λ t. namespace_states (steps t) ≡ namespace_states (steps p)) is e in
-      let others' : ShareFlags (made_in q) = subst (λ t. ShareFlags (made_in t)) is others in
+      let others' : ShareFlags (made_of q) = subst (λ t. ShareFlags (made_of t)) is others in
       let faultless' : first_fault q ≡ None = (no_fault_renamed p faultless numbered s y there new bad free).0 in
       let twins : AreTwins (events (steps p)) (events (steps q)) (now_named free) (own_name free) (table_of p) (table_of q) = are_twins free faultless' same' e' share others' in
       subst (λ t. AreRenamedConflicts p s new (conflicts_of p) (conflicts_of t)) (sym is)
       (all_told free (conflicts_of p) (conflicts_of q) (same_conflicts (events (steps p)) (events (steps q)) (now_named free) (own_name free) (table_of p) (table_of q) twins))
 
   -- where there are no namespaces, there are none in the renamed program
-  pub conflicts_kept_without : (r : Tree) → rename p s new ≡ Ok r → namespace_states (steps p) ≡ [] → ShareFlags (made_in p) → ShareFlags (made_in r) → AreRenamedConflicts p s new (conflicts_of p) (conflicts_of r)
-  conflicts_kept_without r h e share others =
+  pub states_without : (r : Tree) → rename p s new ≡ Ok r → namespace_states (steps p) ≡ [] → namespace_states (steps r) ≡ namespace_states (steps p)
+  states_without r h e =
       let (bad, none, same, is) = ends_renamed p s new r h in
       let marks : HaveSameAnalysis unmarked p = same_unmarked (sheds chosen_here) mark.Shorthand p refl in
       let none_there : namespace_states (steps q) ≡ [] = no_states (steps unmarked) (steps q) (walked (none_means_free p s none)) (marks.states ∙ e) in
-      conflicts_kept r h (ap (λ t. namespace_states (steps t)) is ∙ none_there ∙ sym e) share others
+      ap (λ t. namespace_states (steps t)) is ∙ none_there ∙ sym e
+
+  pub conflicts_kept_without : (r : Tree) → rename p s new ≡ Ok r → namespace_states (steps p) ≡ [] → ShareFlags (made_of p) → ShareFlags (made_of r) → AreRenamedConflicts p s new (conflicts_of p) (conflicts_of r)
+  conflicts_kept_without r h e share others = conflicts_kept r h (states_without r h e) share others

@@ -46,6 +46,10 @@ abbrev function : Name → List Forest → List Forest → Forest
 function name parameters body = node role.Body kind.Function (codes "declaration") (all (
     id name ∷ node role.Params kind.FormalParameters (codes "formal") (all parameters) ∷ node role.Body kind.FunctionBody [] (all body) ∷ []))
 
+-- `let NAME;`
+abbrev pub once : Name → Tree
+once name = program (variable (codes "let") name ∷ [])
+
 -- `let NAME; let NAME; let a;`
 abbrev pub twice : Name → Tree
 twice name = program (variable (codes "let") name ∷ variable (codes "let") name ∷ variable (codes "let") (codes "a") ∷ [])
@@ -72,3 +76,7 @@ reaching name = program (
     ∷ []))
     ∷ variable (codes "let") (codes "N") ∷ [])
     ∷ [])
+
+-- `let x; let x; { let NAME; }`
+abbrev pub shadowing : Name → Tree
+shadowing name = program (variable (codes "let") (codes "x") ∷ variable (codes "let") (codes "x") ∷ block (variable (codes "let") name ∷ []) ∷ [])

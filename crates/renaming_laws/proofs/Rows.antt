@@ -1,16 +1,17 @@
 -- What renamings of small programs keep, and what they don't, by computation.
-use Rattle.std.proofs.Common.{◌≡◌, List, [], ◌∷◌, Ok, codes, map, refl}
+use Rattle.std.proofs.Common.{◌≡◌, List, [], ◌∷◌, Ok, true, codes, map, length, refl}
 use Rattle.semantic_kinds.specs.MarkSets.{no_marks}
 use Rattle.semantic_syntax.specs.Tables.{Name}
 use Rattle.semantic_tree.specs.Tree.{Tree}
 use Rattle.semantic_model.specs.Step.{steps}
 use Rattle.semantic_model.specs.Namespace.{non_instantiated, instantiated}
 use Rattle.semantic_model.specs.NamespaceStates.{namespace_states}
+use Rattle.check_model.specs.DiagnosticsOf.{diagnostics_of}
 use Rattle.program_laws.specs.SameAnalysis.{conflicts_of}
 use Rattle.rename_model.specs.Refusal.{rename}
 use Rattle.rename_model.proofs.Programs.{in_object, shorthand}
 use Rattle.renaming_laws.specs.WrittenOut.{written_out}
-use Rattle.renaming_laws.proofs.Programs.{twice, passing, reaching}
+use Rattle.renaming_laws.proofs.Programs.{once, twice, shadowing, passing, reaching}
 
 abbrev names_told : Tree → List Name
 names_told p = map (λ c. c.name) (conflicts_of p)
@@ -24,6 +25,13 @@ is_renamed = refl
 
 conflict_after : names_told (twice (codes "y")) ≡ codes "y" ∷ []
 conflict_after = refl
+
+-- another symbol of the old name keeps its own, and what is told of it
+is_renamed_inside : rename (shadowing (codes "x")) 1 (codes "y") ≡ Ok (shadowing (codes "y"))
+is_renamed_inside = refl
+
+told_outside : diagnostics_of true (shadowing (codes "y")) ≡ diagnostics_of true (shadowing (codes "x"))
+told_outside = refl
 
 -- a `var` that passes the scope of a type no longer finds its symbol on its way, and gives it its flags
 keeps_ties : rename (passing (codes "x")) 1 (codes "n") ≡ Ok (passing (codes "n"))
@@ -60,3 +68,13 @@ comes_back = refl
 
 is_written_out : written_out (in_object (codes "a") shorthand) 0 ≡ in_object (codes "a") no_marks
 is_written_out = refl
+
+-- a name for which a rule asks breaks it: `await` in a module
+is_taken : rename (once (codes "x")) 0 (codes "await") ≡ Ok (once (codes "await"))
+is_taken = refl
+
+unasked : diagnostics_of true (once (codes "x")) ≡ []
+unasked = refl
+
+asked : length (diagnostics_of true (once (codes "await"))) ≡ 1
+asked = refl

@@ -28,11 +28,11 @@ no_look l e = cc
 
 -- ---- declarations of a state, with those that follow
 
-record Grows (ms ns : List Made) : Type 0 where
-  more : List Made
-  is : ns ≡ ms ++ more
+pub record Grows (ms ns : List Made) : Type 0 where
+  pub more : List Made
+  pub is : ns ≡ ms ++ more
 
-grows_run : (es : List Event) (st : State) → Grows st.made (run st es).made
+pub grows_run : (es : List Event) (st : State) → Grows st.made (run st es).made
 grows_run [] st = record { more = []; is = sym (append-nil st.made) }
 grows_run (declares d ∷ es) st =
     let one : List Made = record { declaration = d; symbol = gets d.how st d } ∷ [] in
@@ -132,12 +132,12 @@ joined_twins (suc r) n k (l ∷ ls) e = ap (λ xs. l ∷ xs) (joined_twins r n k
 
 module _ (F G : List Made) (now next : Made → Name) (tp tq : List (Option ℕ)) (share : ShareFlags F) (share_too : ShareFlags G) where
   -- symbols are declared as the others, and the same was told
-  record Level (st sw : State) : Type 0 where
-    left : Holds tp st
-    right : Holds tq sw
-    same : looks st.symbols ≡ looks sw.symbols
-    many : length st.made ≡ length sw.made
-    told : AllTwinned F G now next st.conflicts sw.conflicts
+  pub record Level (st sw : State) : Type 0 where
+    pub left : Holds tp st
+    pub right : Holds tq sw
+    pub same : looks st.symbols ≡ looks sw.symbols
+    pub many : length st.made ≡ length sw.made
+    pub told : AllTwinned F G now next st.conflicts sw.conflicts
 
   looks_at : (ys zs : List Symbol) (r : ℕ) → looks ys ≡ looks zs → option_map declared_as (slice_get ys r) ≡ option_map declared_as (slice_get zs r)
   looks_at ys zs r e = sym (slice_get-map declared_as ys r) ∙ ap (λ ls. slice_get ls r) e ∙ slice_get-map declared_as zs r
@@ -218,7 +218,7 @@ pub record AreTwins (es fs : List Event) (now next : Made → Name) (tp tq : Lis
   pub names : map now (run start es).made ≡ map next (run start fs).made
 
 module _ (es fs : List Event) (now next : Made → Name) (tp tq : List (Option ℕ)) (w : AreTwins es fs now next tp tq) where
-  in_the_end : Level (run start es).made (run start fs).made now next tp tq w.share w.others_share (run start es) (run start fs)
+  pub in_the_end : Level (run start es).made (run start fs).made now next tp tq w.share w.others_share (run start es) (run start fs)
   in_the_end =
       all_levels (run start es).made (run start fs).made now next tp tq w.share w.others_share es fs start start w.twins w.rows w.other_rows w.orderly w.others_orderly (record {
         left = holds_start tp;

@@ -13,20 +13,21 @@ use Rattle.semantic_model.specs.Hoist.{act, run}
 use Rattle.semantic_model.specs.Naming.{Naming}
 use Rattle.semantic_model.specs.NodeTable.{Belongs, belonging, number_of}
 use Rattle.semantic_model.specs.Step.{steps}
-use Rattle.semantic_model.proofs.fits.NothingInvented.{made_declared, belongs_made}
+use Rattle.semantic_model.specs.TablesOf.{made_of}
+use Rattle.semantic_model.proofs.fits.NothingInvented.{belongs_made}
 use Rattle.walk_model.proofs.once.SymbolsOnce.{symbols_times}
-use Rattle.program_laws.proofs.DeclaredNodes.{IsOf, of_name, of_member, declaration_of}
+use Rattle.program_laws.proofs.DeclaredNodes.{IsOf, of_name, of_member}
+use Rattle.program_laws.proofs.NodeNames.{made_of_node}
 use Rattle.program_laws.proofs.TreeNodes.{nodes_from, ids_between}
 use Rattle.rename_model.specs.Same.{Same}
 use Rattle.rename_model.proofs.NamedNodes.{some_is}
-use Rattle.renaming_laws.specs.InBlocks.{made_in}
 use Rattle.renaming_laws.proofs.Looks.{gets, made_by}
 use Rattle.renaming_laws.proofs.SameConflicts.{symbols_in}
 use Rattle.renaming_laws.proofs.Twins.{unnamed, TwinEvents}
 
 -- ---- the declarations that are made, one by one
 
-abbrev Paired : List Made → List Made → Type 0
+abbrev pub Paired : List Made → List Made → Type 0
 Paired [] [] = Unit {0}
 Paired (m ∷ ms) (n ∷ ns) = (unnamed m.declaration.naming ≡ unnamed n.declaration.naming) × Paired ms ns
 Paired _ _ = ⊥
@@ -37,7 +38,7 @@ paired_more [] (y ∷ ns) m n h e = absurd h
 paired_more (x ∷ ms) [] m n h e = absurd h
 paired_more (x ∷ ms) (y ∷ ns) m n h e = (h.0, paired_more ms ns m n h.1 e)
 
-paired_run : (es fs : List Event) (st sw : State) → TwinEvents es fs → Paired st.made sw.made → Paired (run st es).made (run sw fs).made
+pub paired_run : (es fs : List Event) (st sw : State) → TwinEvents es fs → Paired st.made sw.made → Paired (run st es).made (run sw fs).made
 paired_run [] [] st sw t h = h
 paired_run [] (y ∷ fs) st sw t h = absurd t
 paired_run (x ∷ es) [] st sw t h = absurd t
@@ -77,41 +78,38 @@ pub id_within : (p : Tree) → IsNumbered p.root → (x : Node) → Among x (nod
 id_within p h x (inl e) = let first : 0 ≡ p.root.node_id = ap (λ n. n.node_id) h in let here : p.root.node_id ≡ x.node_id = ap (λ n. n.node_id) e in omega (arith, first, here)
 id_within p h x (inr b) = let (low, high) = ids_between 1 p.root.children x (ap (λ n. n.children) h) b in omega (arith, high)
 
--- what is made is of a node, and that has the symbol
-pub made_of_node : (p : Tree) (m : Made) → Among m (made_in p) → IsOf (nodes_from p.root) m.declaration
-made_of_node p m a = elim (made_declared m start (events (steps p)) a) [ inl k ↦ absurd k | inr k ↦ declaration_of p m.declaration k ]
-
-pub symbol_there : (p : Tree) → first_fault p ≡ None → IsNumbered p.root → (m : Made) → Among m (made_in p) → symbol_at (analysis_of p) m.declaration.naming.identifier ≡ Some m.symbol
+-- the node of what is made has the symbol
+pub symbol_there : (p : Tree) → first_fault p ≡ None → IsNumbered p.root → (m : Made) → Among m (made_of p) → symbol_at (analysis_of p) m.declaration.naming.identifier ≡ Some m.symbol
 symbol_there p h n m a =
-    number_there (map belonging (made_in p)) m.declaration.naming.identifier m.symbol (symbols_times m.declaration.naming.identifier p h n) (belongs_made m (made_in p) a)
+    number_there (map belonging (made_of p)) m.declaration.naming.identifier m.symbol (symbols_times m.declaration.naming.identifier p h n) (belongs_made m (made_of p) a)
 
 module _ (p q : Tree) (faultless : first_fault p ≡ None) (numbered : IsNumbered p.root) (same : Same p q) where
   -- what is made has a node of the program
-  inside : (m : Made) → Among m (made_in p) → m.declaration.naming.identifier < node_count p.root
+  inside : (m : Made) → Among m (made_of p) → m.declaration.naming.identifier < node_count p.root
   inside m a = by (made_of_node p m a)
     where
       by : IsOf (nodes_from p.root) m.declaration → m.declaration.naming.identifier < node_count p.root
       by (of_name x w e f) = subst (λ n. n < node_count p.root) (sym e) (id_within p numbered x w.among)
       by (of_member x w k e) = subst (λ n. n < node_count p.root) (sym e) (id_within p numbered x w)
 
-  module _ (paired : Paired (made_in p) (made_in q)) where
-    same_symbol : (m n : Made) → Among m (made_in p) → Among n (made_in q) → unnamed m.declaration.naming ≡ unnamed n.declaration.naming → m.symbol ≡ n.symbol
+  module _ (paired : Paired (made_of p) (made_of q)) where
+    same_symbol : (m n : Made) → Among m (made_of p) → Among n (made_of q) → unnamed m.declaration.naming ≡ unnamed n.declaration.naming → m.symbol ≡ n.symbol
     same_symbol m n a b e =
         let id : ℕ = m.declaration.naming.identifier in
         let id' : id ≡ n.declaration.naming.identifier = ap (λ (x : Naming). x.identifier) e in
-        let once : times id (map (λ b. b.node) (map belonging (made_in p))) ≤ 1 = symbols_times id p faultless numbered in
-        let once' : times id (map (λ b. b.node) (map belonging (made_in q))) ≤ 1 = subst (λ ns. times id ns ≤ 1) (same_nodes (made_in p) (made_in q) paired) once in
+        let once : times id (map (λ b. b.node) (map belonging (made_of p))) ≤ 1 = symbols_times id p faultless numbered in
+        let once' : times id (map (λ b. b.node) (map belonging (made_of q))) ≤ 1 = subst (λ ns. times id ns ≤ 1) (same_nodes (made_of p) (made_of q) paired) once in
         let there : symbol_at (analysis_of p) id ≡ Some m.symbol = symbol_there p faultless numbered m a in
-        let there' : symbol_at (analysis_of q) id ≡ Some n.symbol = number_there (map belonging (made_in q)) id n.symbol once' (subst (λ x. Among (record { node = x; number = n.symbol }) (map belonging (made_in q))) (sym id') (belongs_made n (made_in q) b)) in
+        let there' : symbol_at (analysis_of q) id ≡ Some n.symbol = number_there (map belonging (made_of q)) id n.symbol once' (subst (λ x. Among (record { node = x; number = n.symbol }) (map belonging (made_of q))) (sym id') (belongs_made n (made_of q) b)) in
         some_is m.symbol n.symbol (sym there ∙ (same id (inside m a)).symbol ∙ there')
 
-    each_same : (ms ns : List Made) → Paired ms ns → ((m : Made) → Among m ms → Among m (made_in p)) → ((n : Made) → Among n ns → Among n (made_in q)) → symbols_in ms ≡ symbols_in ns
+    each_same : (ms ns : List Made) → Paired ms ns → ((m : Made) → Among m ms → Among m (made_of p)) → ((n : Made) → Among n ns → Among n (made_of q)) → symbols_in ms ≡ symbols_in ns
     each_same [] [] h a b = refl
     each_same [] (y ∷ ns) h a b = absurd h
     each_same (x ∷ ms) [] h a b = absurd h
     each_same (x ∷ ms) (y ∷ ns) h a b = λ i. same_symbol x y (a x (inl refl)) (b y (inl refl)) h.0 i ∷ each_same ms ns h.1 (λ m c. a m (inr c)) (λ n c. b n (inr c)) i
 
-  pub same_symbols : TwinEvents (events (steps p)) (events (steps q)) → symbols_in (made_in p) ≡ symbols_in (made_in q)
+  pub same_symbols : TwinEvents (events (steps p)) (events (steps q)) → symbols_in (made_of p) ≡ symbols_in (made_of q)
   same_symbols t =
-      let paired : Paired (made_in p) (made_in q) = paired_run (events (steps p)) (events (steps q)) start start t tt in
-      each_same paired (made_in p) (made_in q) paired (λ m a. a) (λ n a. a)
+      let paired : Paired (made_of p) (made_of q) = paired_run (events (steps p)) (events (steps q)) start start t tt in
+      each_same paired (made_of p) (made_of q) paired (λ m a. a) (λ n a. a)

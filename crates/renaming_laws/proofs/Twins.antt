@@ -16,10 +16,9 @@ use Rattle.semantic_model.specs.Naming.{Naming}
 use Rattle.semantic_model.specs.Place.{Place, OpenScope, innermost, outside}
 use Rattle.semantic_model.specs.Step.{Step, entering, opening, header_ending, closing, leaving}
 use Rattle.semantic_model.proofs.form.Clauses.{kind_is}
-use Rattle.semantic_model.proofs.swapped.AlikeBinder.{renamed_declaration}
+use Rattle.semantic_model.proofs.swapped.AlikeBinder.{renamed_declaration, ren, parent_kind}
 use Rattle.semantic_model.proofs.swapped.AlikeSteps.{SamePlace, AlikeStep, AlikeSteps}
-use Rattle.renaming_laws.proofs.AlikeRows.{ren, parent_kind}
-use Rattle.renaming_laws.proofs.AlikeDeclarations.{namespace_same, facts, entering_same, opening_same}
+use Rattle.semantic_model.proofs.swapped.AlikeDeclares.{namespace_same, facts, entering_same, opening_same}
 
 -- ---- declarations and events that differ in names alone
 
@@ -41,7 +40,7 @@ TwinEvents [] [] = Unit {0}
 TwinEvents (x ∷ xs) (y ∷ ys) = TwinEvent x y × TwinEvents xs ys
 TwinEvents _ _ = ⊥
 
-twins_append : (xs ys us vs : List Event) → TwinEvents xs ys → TwinEvents us vs → TwinEvents (xs ++ us) (ys ++ vs)
+pub twins_append : (xs ys us vs : List Event) → TwinEvents xs ys → TwinEvents us vs → TwinEvents (xs ++ us) (ys ++ vs)
 twins_append [] [] us vs h i = i
 twins_append [] (y ∷ ys) us vs h i = absurd h
 twins_append (x ∷ xs) [] us vs h i = absurd h
@@ -129,7 +128,7 @@ module _ (f : Name → Name) where
       ∙ sym (namespace_between x w.between w.left sx) ∙ ap (λ s. namespace_row s w.between) same ∙ namespace_between y w.between w.right sy
       ∙ ap (λ j. ren f (declared_by j y)) k'
 
-  declared_twins : (x y : Place) → Twins x y → state_at (entering x) ≡ state_at (entering y) → ren f (declared_on_entering x) ≡ ren f (declared_on_entering y)
+  pub declared_twins : (x y : Place) → Twins x y → state_at (entering x) ≡ state_at (entering y) → ren f (declared_on_entering x) ≡ ren f (declared_on_entering y)
   declared_twins x y w e = go (same_kind x.node.kind kind.TSNamespaceDeclaration) refl
     where
       go : (b : Bool) → same_kind x.node.kind kind.TSNamespaceDeclaration ≡ b → ren f (declared_on_entering x) ≡ ren f (declared_on_entering y)
@@ -138,10 +137,10 @@ module _ (f : Name → Name) where
           sym (entering_same f x w.between w.left k)
           ∙ entering_same f y w.between w.right (ap (λ j. same_kind j kind.TSNamespaceDeclaration) (sym (same_kinds x y w)) ∙ k)
 
-  inside_twins : (x y : Place) (own : OpenScope) → Twins x y → ren f (declared_on_opening x own) ≡ ren f (declared_on_opening y own)
+  pub inside_twins : (x y : Place) (own : OpenScope) → Twins x y → ren f (declared_on_opening x own) ≡ ren f (declared_on_opening y own)
   inside_twins x y own w = sym (opening_same f x w.between own w.left) ∙ opening_same f y w.between own w.right
 
-  taken_twins : (x y : Place) (s : OpenScope) → Twins x y → taken_over x s ≡ taken_over y s
+  pub taken_twins : (x y : Place) (s : OpenScope) → Twins x y → taken_over x s ≡ taken_over y s
   taken_twins x y s w = sym (taken_between x w.between s w.left) ∙ taken_between y w.between s w.right
     where
       taken_between : (p q : Place) (o : OpenScope) → SamePlace f p q → taken_over q o ≡ taken_over p o
@@ -151,7 +150,7 @@ module _ (f : Name → Name) where
 
 -- ---- events
 
-abbrev unnamed_all : List Declaration → List Declaration
+abbrev pub unnamed_all : List Declaration → List Declaration
 unnamed_all ds = ren nameless ds
 
 all_twins : (ds es new old : List Declaration) → unnamed_all new ≡ unnamed_all old → TwinEvents (declares_all ds new) (declares_all es old)
@@ -175,7 +174,7 @@ self_twin (declares d) = refl
 self_twin (takes_over c b) = (refl, refl)
 self_twin (ends_header c) = refl
 
-step_twins : (ds es : List Declaration) (x y : Step) → TwinStep nameless x y → state_at x ≡ state_at y → TwinEvents (events_of ds x) (events_of es y)
+pub step_twins : (ds es : List Declaration) (x y : Step) → TwinStep nameless x y → state_at x ≡ state_at y → TwinEvents (events_of ds x) (events_of es y)
 step_twins ds es (entering x) (entering y) w e = all_twins ds es (declared_on_entering x) (declared_on_entering y) (declared_twins nameless x y w e)
 step_twins ds es (opening x s) (opening y t) w e =
     subst (λ o. TwinEvents (events_of ds (opening x s)) (events_of es (opening y o))) (sym w.1)
@@ -188,7 +187,7 @@ step_twins ds es (leaving x) (leaving y) w e = tt
 step_twins ds es _ _ w e = absurd w
 
 -- states in the same order belong to the same namespaces
-first_states : (x y : Step) (xs ys : List Step) → TwinStep nameless x y → namespace_states (x ∷ xs) ≡ namespace_states (y ∷ ys) → (state_at x ≡ state_at y) × (namespace_states xs ≡ namespace_states ys)
+pub first_states : (x y : Step) (xs ys : List Step) → TwinStep nameless x y → namespace_states (x ∷ xs) ≡ namespace_states (y ∷ ys) → (state_at x ≡ state_at y) × (namespace_states xs ≡ namespace_states ys)
 first_states (entering x) (entering y) xs ys w e = go (same_kind x.node.kind kind.TSNamespaceDeclaration) refl e
   where
     sx : InstanceState

@@ -4,13 +4,13 @@ use Rattle.semantic_syntax.specs.Tables.{Name}
 use Rattle.semantic_tree.specs.Tree.{Tree}
 use Rattle.semantic_model.specs.Entries.{Among}
 use Rattle.semantic_model.specs.Fold.{Conflict, Made}
-use Rattle.renaming_laws.specs.InBlocks.{made_in}
+use Rattle.semantic_model.specs.TablesOf.{made_of}
 
 -- a conflict of a declaration of the program, told by its name at its place, and the same one with the new name, if that is for
 -- the declaration's symbol
 pub record IsRenamedConflict (p : Tree) (s : ℕ) (new : Name) (c e : Conflict) : Type 0 where
   pub made : Made
-  pub among : Among made (made_in p)
+  pub among : Among made (made_of p)
   pub named : c.name ≡ made.declaration.naming.name
   pub placed : c.later ≡ made.declaration.naming.span
   pub is : e ≡ record c { name = cond (made.symbol == s) new c.name }

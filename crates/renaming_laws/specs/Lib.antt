@@ -4,3 +4,8 @@ pub mod KeptConflicts
 pub mod KeptDeclarations
 pub mod AskedNames
 pub mod LookedUp
+pub mod KeptSignatures
+pub mod NewNames
+pub mod KeptSoFar
+pub mod ImportsAtTop
+pub mod LeavesRules

@@ -6,14 +6,15 @@ ghost use Rattle.semantic_tree.specs.Renamed.{swap};
 ghost use Rattle.semantic_tree.specs.Tree.{Tree, IsNumbered};
 ghost use Rattle.semantic_model.specs.NamespaceStates.{namespace_states};
 ghost use Rattle.semantic_model.specs.Step.{steps};
-ghost use Rattle.semantic_model.specs.TablesOf.{tables_of};
+ghost use Rattle.semantic_model.specs.TablesOf.{tables_of, made_of};
 ghost use Rattle.program_laws.specs.SameAnalysis.{conflicts_of};
 ghost use Rattle.rename_model.specs.Alone.{BelongsTo, IsUnused};
 ghost use Rattle.rename_model.specs.Refusal.{rename};
-ghost use Rattle.renaming_laws.specs.InBlocks.{made_in, ShareFlags};
+ghost use Rattle.renaming_laws.specs.InBlocks.{ShareFlags, NoneMoves};
 ghost use Rattle.swapped_checks.specs.SwappedPrograms.{holds_within};
 ghost use Rattle.renaming_laws.specs.LookedUp.{exports_neither};
 ghost use Rattle.renaming_laws.specs.KeptDeclarations.{KeepsDeclarations};
+ghost use Rattle.renaming_laws.specs.KeptSoFar.{KeepsSoFar};
 ghost use Rattle.renaming_laws.specs.KeptConflicts.{AreRenamedConflicts, with_other_name};
 
 /// A renaming keeps the conflicts of declarations: so many, in the same order, at the same places. Those of the symbol are told
@@ -24,17 +25,17 @@ pub fn a_renaming_keeps_conflicts()
     ensures kept { (p q : Tree) (s : ℕ) (y : Symbol) (new : Name) → first_fault p ≡ None
         → IsNumbered p.root → slice_get (tables_of p).symbols s ≡ Some y
         → rename p s new ≡ Ok q → namespace_states (steps q) ≡ namespace_states (steps p)
-        → ShareFlags (made_in p) → ShareFlags (made_in q)
+        → ShareFlags (made_of p) → ShareFlags (made_of q)
         → AreRenamedConflicts p s new (conflicts_of p) (conflicts_of q) }
     ensures without_namespaces { (p q : Tree) (s : ℕ) (y : Symbol) (new : Name)
         → first_fault p ≡ None → IsNumbered p.root → slice_get (tables_of p).symbols s ≡ Some y
-        → rename p s new ≡ Ok q → namespace_states (steps p) ≡ [] → ShareFlags (made_in p)
-        → ShareFlags (made_in q)
+        → rename p s new ≡ Ok q → namespace_states (steps p) ≡ [] → ShareFlags (made_of p)
+        → ShareFlags (made_of q)
         → AreRenamedConflicts p s new (conflicts_of p) (conflicts_of q) }
     ensures unexported { (p q : Tree) (s : ℕ) (y : Symbol) (new : Name) → first_fault p ≡ None
         → IsNumbered p.root → slice_get (tables_of p).symbols s ≡ Some y
         → rename p s new ≡ Ok q → holds_within (exports_neither y.name new) p.root ≡ true
-        → ShareFlags (made_in p) → ShareFlags (made_in q)
+        → ShareFlags (made_of p) → ShareFlags (made_of q)
         → AreRenamedConflicts p s new (conflicts_of p) (conflicts_of q) }
 {}
 
@@ -45,8 +46,28 @@ pub fn a_renaming_keeps_declarations()
     ensures { (p q : Tree) (s : ℕ) (y : Symbol) (new : Name) → first_fault p ≡ None
         → IsNumbered p.root → slice_get (tables_of p).symbols s ≡ Some y
         → rename p s new ≡ Ok q → namespace_states (steps q) ≡ namespace_states (steps p)
-        → ShareFlags (made_in p) → ShareFlags (made_in q)
+        → ShareFlags (made_of p) → ShareFlags (made_of q)
         → KeepsDeclarations p q s new }
+{}
+
+/// Under the same conditions all this holds wherever the declarations stop: of what the first n events make there are the same symbols,
+/// of the same identifiers, and the same conflicts. That is what the rules of early errors see at each node.
+pub fn a_renaming_keeps_declarations_so_far()
+    ensures { (p q : Tree) (s n : ℕ) (y : Symbol) (new : Name) → first_fault p ≡ None
+        → IsNumbered p.root → slice_get (tables_of p).symbols s ≡ Some y
+        → rename p s new ≡ Ok q → namespace_states (steps q) ≡ namespace_states (steps p)
+        → ShareFlags (made_of p) → ShareFlags (made_of q)
+        → KeepsSoFar p q s new n }
+{}
+
+/// Where no function of the program moves out of its block, as none does in TypeScript and in strict code, the declarations of the
+/// renamed program go the same ways. So the condition on variables in blocks need be seen of the program alone.
+pub fn variables_go_on_sharing_flags()
+    ensures { (p q : Tree) (s : ℕ) (y : Symbol) (new : Name) → first_fault p ≡ None
+        → IsNumbered p.root → slice_get (tables_of p).symbols s ≡ Some y
+        → rename p s new ≡ Ok q → namespace_states (steps q) ≡ namespace_states (steps p)
+        → NoneMoves p → ShareFlags (made_of p)
+        → ShareFlags (made_of q) }
 {}
 
 /// Where every node with the name of a symbol belongs to it, that name is neither `arguments` nor `eval`, and no node has the

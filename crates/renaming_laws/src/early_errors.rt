@@ -1,16 +1,22 @@
-//! A law on early errors of renamed programs.
-ghost use Rattle.std.specs.Prelude.{◌≡◌, ℕ, Some, None, Ok, Bool, false, true, slice_get};
+//! Laws on early errors of renamed programs.
+ghost use Rattle.std.specs.Prelude.{◌≡◌, ℕ, Some, None, Ok, Bool, false, true, [], slice_get};
 ghost use Rattle.semantic_syntax.specs.Tables.{Name, Symbol};
 ghost use Rattle.semantic_tree.specs.Faults.{first_fault};
 ghost use Rattle.semantic_tree.specs.Renamed.{swap};
 ghost use Rattle.semantic_tree.specs.Tree.{Tree, IsNumbered};
 ghost use Rattle.semantic_model.specs.Analysis.{analysis_of};
-ghost use Rattle.semantic_model.specs.TablesOf.{tables_of};
+ghost use Rattle.semantic_model.specs.NamespaceStates.{namespace_states};
+ghost use Rattle.semantic_model.specs.Step.{steps};
+ghost use Rattle.semantic_model.specs.TablesOf.{tables_of, made_of};
 ghost use Rattle.check_model.specs.DiagnosticsOf.{diagnostics_of};
 ghost use Rattle.rename_model.specs.Alone.{BelongsTo, IsUnused};
 ghost use Rattle.rename_model.specs.Refusal.{rename};
 ghost use Rattle.rename_model.specs.Renamed.{bears_name};
 ghost use Rattle.rename_model.specs.WithName.{sheds};
+ghost use Rattle.renaming_laws.specs.InBlocks.{ShareFlags};
+ghost use Rattle.renaming_laws.specs.LeavesRules.{LeavesRules};
+ghost use Rattle.renaming_laws.specs.LookedUp.{exports_neither};
+ghost use Rattle.renaming_laws.specs.NewNames.{instead};
 ghost use Rattle.renaming_laws.specs.WrittenOut.{written_out};
 ghost use Rattle.swapped_checks.specs.RuleWords.{is_rule_word};
 ghost use Rattle.swapped_checks.specs.SwappedPrograms.{holds_within, is_other_string, keeps_prototype};
@@ -37,4 +43,28 @@ pub fn a_name_of_one_symbol_keeps_early_errors()
         → holds_within (keeps_prototype (sheds (bears_name (analysis_of p) s))) p.root ≡ true
         → rename p s new ≡ Ok q
         → AreToldAgain (swap y.name new) (diagnostics_of checks p) (diagnostics_of checks q) }
+{}
+
+/// A renaming keeps the diagnostics of a program, early errors too, in the same order and at the same places, whatever else has the
+/// old name or the new one: each is the same one, or is told of the new name where it was told of the old one. Declarations have to
+/// stay, under the conditions under which conflicts do, and what the rules ask for is left alone: neither name is one of their words.
+/// What else they ask for is so in each tree that a parser makes.
+pub fn a_renaming_keeps_early_errors()
+    ensures kept { (p q : Tree) (s : ℕ) (y : Symbol) (new : Name) (checks : Bool)
+        → first_fault p ≡ None → IsNumbered p.root → slice_get (tables_of p).symbols s ≡ Some y
+        → LeavesRules p s y.name new → rename p s new ≡ Ok q
+        → namespace_states (steps q) ≡ namespace_states (steps p)
+        → ShareFlags (made_of p) → ShareFlags (made_of q)
+        → AreToldAgain (instead y.name new) (diagnostics_of checks p) (diagnostics_of checks q) }
+    ensures without_namespaces { (p q : Tree) (s : ℕ) (y : Symbol) (new : Name) (checks : Bool)
+        → first_fault p ≡ None → IsNumbered p.root → slice_get (tables_of p).symbols s ≡ Some y
+        → LeavesRules p s y.name new → rename p s new ≡ Ok q
+        → namespace_states (steps p) ≡ [] → ShareFlags (made_of p) → ShareFlags (made_of q)
+        → AreToldAgain (instead y.name new) (diagnostics_of checks p) (diagnostics_of checks q) }
+    ensures unexported { (p q : Tree) (s : ℕ) (y : Symbol) (new : Name) (checks : Bool)
+        → first_fault p ≡ None → IsNumbered p.root → slice_get (tables_of p).symbols s ≡ Some y
+        → LeavesRules p s y.name new → rename p s new ≡ Ok q
+        → holds_within (exports_neither y.name new) p.root ≡ true
+        → ShareFlags (made_of p) → ShareFlags (made_of q)
+        → AreToldAgain (instead y.name new) (diagnostics_of checks p) (diagnostics_of checks q) }
 {}

@@ -1,4 +1,4 @@
-//! What a renaming keeps besides ties: the conflicts of declarations, early errors where it is a swap of names, and the
+//! What a renaming keeps besides ties: the conflicts of declarations, early errors, and the
 //! program to which it leads back.
 //! There is no program code here: the definitions stand in `specs/`, each law on a function that does nothing.
 #![tactic(auto)]

@@ -15,16 +15,17 @@ use Rattle.program_ends.specs.Telling.{stop_of}
 use Rattle.program_ends.specs.declared.stops.Stop.TheVariants as stop
 use Rattle.program_ends.proofs.Endings.{ends_usage, ends_answered, ends_told, answer_ends, memory_ends}
 use Rattle.program_ends.proofs.Meanings.{clear_reading, clear_making}
-use Rattle.report_answers.specs.Codes.{end_of, status_for}
+use Rattle.program_ends.specs.FindingEnds.{end_of}
+use Rattle.report_answers.specs.Codes.{status_for}
 use Rattle.report.specs.Meaning.{IsAbout, Answers, GivesAnswer, Ends, IsAsked, AsksForReport, IsAskedAbout, AnswersTo, RefusesNone, MeansBy, IsClearBy, IsClearFor}
 use Rattle.report.specs.Telling.{usage_line}
 use Rattle.report_answers.specs.declared.request.Request.{Request}
-use Rattle.report_answers.specs.declared.status.ReportStatus.{ReportStatus}
+use Rattle.program_ends.specs.declared.finding.FindingStatus.{FindingStatus}
 
 -- ---- the answer
 
 -- the same program
-pub gives_about : {K : Type 0} (held : K → Option (List ℕ)) (faults : K → ℕ) (old new : K) (request : Request) (p q : Tree) (result : Result ReportStatus ReportError) → p ≡ q → GivesAnswer held faults old new request p result → GivesAnswer held faults old new request q result
+pub gives_about : {K : Type 0} (held : K → Option (List ℕ)) (faults : K → ℕ) (old new : K) (request : Request) (p q : Tree) (result : Result FindingStatus ReportError) → p ≡ q → GivesAnswer held faults old new request p result → GivesAnswer held faults old new request q result
 gives_about held faults old new request p q result same given = subst (λ r. GivesAnswer held faults old new request r result) same given
 
 -- what is read or made is what the request is about
@@ -40,36 +41,36 @@ is_answer_for : (diagnostics : List Diagnostic) → is_answer (end_of (status_fo
 is_answer_for [] = refl
 is_answer_for (first ∷ others) = refl
 
-is_answered : (request : Request) (source : SourceCall) (out : SinkCall) (result : ReportStatus) → Ends request source out (Ok result) → is_answer (end_of result) ≡ true
+is_answered : (request : Request) (source : SourceCall) (out : SinkCall) (result : FindingStatus) → Ends request source out (Ok result) → is_answer (end_of result) ≡ true
 is_answered request source out result whole = ap is_answer whole.answers.ends ∙ is_answer_for whole.answers.diagnostics
 
 module _ (source : SourceCall) (out errs : SinkCall) where
   -- the words are refused
-  pub means_refused : (asked : Option Request) (result : ReportStatus) → asked ≡ None → Unread source → Untouched out → TellsEnd errs usage_line stop.Usage (end_of result) → MeansBy asked source out errs result
+  pub means_refused : (asked : Option Request) (result : FindingStatus) → asked ≡ None → Unread source → Untouched out → TellsEnd errs usage_line stop.Usage (end_of result) → MeansBy asked source out errs result
   means_refused None result none unread untouched tells = ends_usage (IsAsked None) (AsksForReport None) usage_line (IsAskedAbout None) RefusedFor tree_line (AnswersTo None) RefusesNone source out errs (end_of result) (λ asked. asked) unread untouched tells
   means_refused (Some request) result none unread untouched tells = absurd (cc)
 
   -- the answer is written
-  pub means_answered : (asked : Option Request) (request : Request) (result : ReportStatus) → asked ≡ Some request → Ends request source out (Ok result) → Untouched errs → MeansBy asked source out errs result
+  pub means_answered : (asked : Option Request) (request : Request) (result : FindingStatus) → asked ≡ Some request → Ends request source out (Ok result) → Untouched errs → MeansBy asked source out errs result
   means_answered asked request result is whole untouched =
       subst (λ a. MeansBy a source out errs result) (sym is)
       (ends_answered (IsAsked (Some request)) (AsksForReport (Some request)) usage_line (IsAskedAbout (Some request)) RefusedFor tree_line (AnswersTo (Some request)) RefusesNone source out errs (end_of result) tt whole (is_answered request source out result whole) untouched)
 
   -- why it isn't is told
-  pub means_stopped : (asked : Option Request) (request : Request) (cause : ReportError) (result : ReportStatus) → asked ≡ Some request → Ends request source out (Err cause) → TellsEnd errs (line_on_error cause) (stop_of cause) (end_of result) → MeansBy asked source out errs result
+  pub means_stopped : (asked : Option Request) (request : Request) (cause : ReportError) (result : FindingStatus) → asked ≡ Some request → Ends request source out (Err cause) → TellsEnd errs (line_on_error cause) (stop_of cause) (end_of result) → MeansBy asked source out errs result
   means_stopped asked request cause result is why tells =
       subst (λ a. MeansBy a source out errs result) (sym is)
       (ends_told (IsAsked (Some request)) (AsksForReport (Some request)) usage_line (IsAskedAbout (Some request)) (AnswersTo (Some request)) RefusesNone source out errs cause (end_of result) tt why tells)
 
 -- ---- completeness
 
-pub answered_done : (request : Request) (source : SourceCall) (out : SinkCall) (result : ReportStatus) → Ends request source out (Ok result) → IsDoneOrMemory (end_of result)
+pub answered_done : (request : Request) (source : SourceCall) (out : SinkCall) (result : FindingStatus) → Ends request source out (Ok result) → IsDoneOrMemory (end_of result)
 answered_done request source out result whole = answer_ends (end_of result) (is_answered request source out result whole)
 
 made_not_read : (functions : ℕ) → Some functions ≡ None → ⊥
 made_not_read functions same = absurd (cc)
 
-pub clear_stopped : (asked : Option Request) (request : Request) (source : SourceCall) (out errs : SinkCall) (cause : ReportError) (result : ReportStatus) → asked ≡ Some request → IsClearFor asked source out
+pub clear_stopped : (asked : Option Request) (request : Request) (source : SourceCall) (out errs : SinkCall) (cause : ReportError) (result : FindingStatus) → asked ≡ Some request → IsClearFor asked source out
     → (request.make ≡ None → (input : List ℕ) (program : Tree) → source.left ≡ Some input → Stands input program → IsNotRefused cause) → Ends request source out (Err cause) → TellsEnd errs (line_on_error cause) (stop_of cause) (end_of result) → IsDoneOrMemory (end_of result)
 clear_stopped asked request source out errs cause result is clear kept why tells =
     subst IsDoneOrMemory (sym (memory_ends errs cause (end_of result) (by request.make refl (subst (λ a. IsClearFor a source out) is clear)) tells)) tt

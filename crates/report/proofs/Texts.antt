@@ -17,7 +17,7 @@ use Rattle.report_lines.specs.DiagnosticLine.{diagnostic_line}
 use Rattle.report_lines.specs.TableLines.{table_lines}
 use Rattle.report.specs.Built.{found_of}
 use Rattle.report_answers.specs.Found.{Found}
-use Rattle.report_answers.specs.Report.{where_asked, listed_text, noted_text, counted_text, report_text, text_by}
+use Rattle.report_answers.specs.Report.{where_asked, noted_text, counted_text, text_by}
 use Rattle.report_answers.specs.declared.options.Options.{Options}
 
 nodes_same : (asked : Bool) (list : NodeList) (p : Tree) → list ≡ kept_nodes asked p → where_asked asked (node_lines list) ≡ where_asked asked (node_lines (node_list p))
@@ -28,12 +28,6 @@ classes_same : (asked checks : Bool) (lists : ClassLists) (p : Tree) → lists �
 classes_same true checks lists p same = ap all_class_lines same
 classes_same false checks lists p same = refl
 
-parts_same : (options : Options) (x y : Found) → listed_text options x ≡ listed_text options y → noted_text options x ≡ noted_text options y → counted_text options x ≡ counted_text options y → report_text options x ≡ report_text options y
-parts_same options x y listed noted counted =
-    ap (λ text. text ++ (noted_text options x ++ counted_text options x)) listed
-    ∙ ap (λ text. listed_text options y ++ (text ++ counted_text options x)) noted
-    ∙ ap (λ text. listed_text options y ++ (noted_text options y ++ text)) counted
-
 module _ (options : Options) (nodes : NodeList) (tables : Tables) (lists : ClassLists) (labels : List ℕ) (count : ℕ) (diagnostics : List Diagnostic) (p : Tree) where
   abbrev pub found_here : Found
   found_here = record { nodes = nodes; tables = tables; classes = lists; labels = labels; count = count; diagnostics = diagnostics }
@@ -41,9 +35,10 @@ module _ (options : Options) (nodes : NodeList) (tables : Tables) (lists : Class
   pub text_same : (make : Option ℕ) (checks : Bool) → nodes ≡ kept_nodes options.nodes p → lists ≡ classes_noted (options.classes || checks) p → labels ≡ unused_labels p.root → count ≡ node_count p.root
       → text_by make options found_here ≡ text_by make options (found_of p tables diagnostics)
   text_same None checks n c l k =
-      parts_same options found_here (found_of p tables diagnostics)
-      (ap (λ text. text ++ table_lines tables) (nodes_same options.nodes nodes p n))
-      (ap (λ text. text ++ flat_map label_line labels) (classes_same options.classes checks lists p c)
-      ∙ ap (λ ls. where_asked options.classes (all_class_lines (lists_told (classes p.root))) ++ flat_map label_line ls) l)
-      (ap (λ n. where_asked options.stats (stats_line n tables) ++ flat_map diagnostic_line diagnostics) k)
+      let told = where_asked options.classes (all_class_lines (lists_told (classes p.root))) in
+      ap (λ text. text ++ (table_lines tables ++ noted_text options found_here)) (nodes_same options.nodes nodes p n)
+      ∙ ap (λ text. where_asked options.nodes (node_lines (node_list p)) ++ (table_lines tables ++ text))
+      (ap (λ text. text ++ (flat_map label_line labels ++ counted_text options found_here)) (classes_same options.classes checks lists p c)
+      ∙ ap (λ ls. told ++ (flat_map label_line ls ++ counted_text options found_here)) l
+      ∙ ap (λ m. told ++ (flat_map label_line (unused_labels p.root) ++ (where_asked options.stats (stats_line m tables) ++ flat_map diagnostic_line diagnostics))) k)
   text_same (Some functions) checks n c l k = ap (λ n. made_line n tables) k

@@ -15,13 +15,14 @@ use Rattle.program_ends.specs.Lines.{tree_line}
 use Rattle.program_ends.specs.Meaning.{End, Finds, MeansOf}
 use Rattle.program_ends.specs.Reads.{Stands, RefusedFor}
 use Rattle.promise.specs.Analysis.{IsAnalysis}
-use Rattle.report_answers.specs.Codes.{end_of, status_for}
+use Rattle.program_ends.specs.FindingEnds.{end_of}
+use Rattle.report_answers.specs.Codes.{status_for}
 use Rattle.report.specs.Built.{found_of}
 use Rattle.report_answers.specs.Report.{answer_text}
 use Rattle.report_answers.specs.Requests.{request_of}
 use Rattle.report.specs.Telling.{usage_line}
 use Rattle.report_answers.specs.declared.request.Request.{Request}
-use Rattle.report_answers.specs.declared.status.ReportStatus.{ReportStatus}
+use Rattle.program_ends.specs.declared.finding.FindingStatus.{FindingStatus}
 
 -- ---- what is answered
 
@@ -39,11 +40,11 @@ pub record Answers (request : Request) (end : End) (p : Tree) (text : List ℕ) 
   pub ends : end ≡ end_of (status_for diagnostics)
 
 -- the sink has taken the answer about the program, or a prefix of it; or memory was wanting before there was one
-abbrev pub GivesAnswer : {K : Type 0} → (K → Option (List ℕ)) → (K → ℕ) → K → K → Request → Tree → Result ReportStatus ReportError → Type 0
+abbrev pub GivesAnswer : {K : Type 0} → (K → Option (List ℕ)) → (K → ℕ) → K → K → Request → Tree → Result FindingStatus ReportError → Type 0
 GivesAnswer held faults old new request p result = answering.GivesAnswer end_of (Answers request) held faults old new p result
 
 -- what becomes of a request, before it is told
-abbrev pub Ends : Request → SourceCall → SinkCall → Result ReportStatus ReportError → Type 0
+abbrev pub Ends : Request → SourceCall → SinkCall → Result FindingStatus ReportError → Type 0
 Ends request source out result = EndsBy end_of (request.make ≡ None) (IsAbout request.make) (Answers request) source out result
 
 -- ---- the whole program
@@ -73,12 +74,12 @@ abbrev pub RefusesNone : Tree → List ℕ → Type 0
 RefusesNone p line = ⊥
 
 -- what the program has done at a status, by what the words ask for
-abbrev pub MeansBy : Option Request → SourceCall → SinkCall → SinkCall → ReportStatus → Type 0
+abbrev pub MeansBy : Option Request → SourceCall → SinkCall → SinkCall → FindingStatus → Type 0
 MeansBy asked source out errs status =
     MeansOf (IsAsked asked) (AsksForReport asked) usage_line (IsAskedAbout asked) RefusedFor tree_line (AnswersTo asked) RefusesNone source out errs (end_of status)
 
 -- What the program has done at each status.
-abbrev pub Means : SourceCall → SinkCall → SinkCall → List (String Global) → ReportStatus → Type 0
+abbrev pub Means : SourceCall → SinkCall → SinkCall → List (String Global) → FindingStatus → Type 0
 Means source out errs words status = MeansBy (request_of words) source out errs status
 
 -- ---- completeness

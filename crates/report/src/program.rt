@@ -7,7 +7,7 @@ ghost use Rattle.program_ends.specs.Completeness.{IsNotRefused, IsDoneOrMemory, 
 ghost use Rattle.program_ends.specs.Ending.{TellsEnd};
 ghost use Rattle.program_ends.specs.Faults.{FaultsEnd, end_due};
 ghost use Rattle.program_ends.specs.Reads.{Stands};
-ghost use Rattle.report_answers.specs.Codes.{end_of};
+ghost use Rattle.program_ends.specs.FindingEnds.{end_of};
 ghost use Rattle.report.specs.Meaning.{GivesAnswer, Ends, Means, IsClearFor};
 ghost use Rattle.report_answers.specs.Requests.{request_of};
 ghost use Rattle.report.specs.Telling.{usage_line};
@@ -114,7 +114,7 @@ pub fn refuse_words<E: Sink>(errs: &mut E) -> ReportStatus
 
 /// Does all that the program does: it reads the whole input, which is a program's tree as JSON, and writes its report
 /// on `out`; or it makes a script, and writes the summary of its analysis. By `--check` the diagnostics have the early
-/// errors, too; it answers `Diagnosed` exactly where there are diagnostics. Where it can't answer it tells why on `errs`,
+/// errors, too; it answers `Found` exactly where there are diagnostics. Where it can't answer it tells why on `errs`,
 /// in one line. Where the words are refused, or ask for a script that is made, nothing is read.
 pub fn run<S: Source, K: Sink, E: Sink>(
     alloc: Global,

@@ -13,21 +13,17 @@ use Rattle.report_answers.specs.declared.request.Request.{Request}
 abbrev pub where_asked : Bool → List ℕ → List ℕ
 where_asked asked lines = if asked then lines else []
 
--- the nodes, where they are asked for, and the tables
-abbrev pub listed_text : Options → Found → List ℕ
-listed_text options found = where_asked options.nodes (node_lines found.nodes) ++ table_lines found.tables
-
--- the classes, where they are asked for, and the unused labels
-abbrev pub noted_text : Options → Found → List ℕ
-noted_text options found = where_asked options.classes (all_class_lines found.classes) ++ flat_map label_line found.labels
-
 -- the counts, where they are asked for, and the diagnostics
 abbrev pub counted_text : Options → Found → List ℕ
 counted_text options found = where_asked options.stats (stats_line found.count found.tables) ++ flat_map diagnostic_line found.diagnostics
 
--- the text of a report
+-- what stands behind the tables: the classes, where they are asked for, the unused labels, and the above
+abbrev pub noted_text : Options → Found → List ℕ
+noted_text options found = where_asked options.classes (all_class_lines found.classes) ++ (flat_map label_line found.labels ++ counted_text options found)
+
+-- the text of a report: the nodes, where they are asked for, the tables, and the above
 abbrev pub report_text : Options → Found → List ℕ
-report_text options found = listed_text options found ++ (noted_text options found ++ counted_text options found)
+report_text options found = where_asked options.nodes (node_lines found.nodes) ++ (table_lines found.tables ++ noted_text options found)
 
 -- what a report tells besides
 abbrev pub options_of : Request → Options

@@ -6,8 +6,8 @@ ghost use Rattle.report_answers.specs.Codes.{status_for};
 ghost use Rattle.report_answers.specs.Found.{found_in};
 ghost use Rattle.report_answers.specs.Report.{answer_text};
 
+use crate::ReportStatus;
 use crate::request::Request;
-use crate::status::ReportStatus;
 use crate::write::{write_report, write_summary};
 use report_ends::{ReportError, Sink};
 use semantic_diagnostics::Diagnostics;
@@ -19,9 +19,9 @@ fn status_for(diagnostics: &Diagnostics) -> ReportStatus
     ensures { result ≡ status_for diagnostics.now }
 {
     if diagnostics.len() == 0 {
-        ReportStatus::Clean
+        ReportStatus::Done
     } else {
-        ReportStatus::Diagnosed
+        ReportStatus::Found
     }
 }
 

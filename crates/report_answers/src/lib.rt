@@ -4,12 +4,11 @@
 mod answer;
 mod options;
 mod request;
-mod status;
 mod word;
 mod write;
 
 pub use answer::finish_answer;
 pub use options::Options;
+pub use program_ends::FindingStatus as ReportStatus;
 pub use request::{Request, read_words};
-pub use status::ReportStatus;
 pub use write::{write_report, write_summary};

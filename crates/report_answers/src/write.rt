@@ -4,9 +4,8 @@ ghost use Rattle.report_ends.specs.Streams.{WritesLines};
 ghost use Rattle.report_lines.specs.ClassLines.{all_class_lines};
 ghost use Rattle.report_lines.specs.CountLines.{node_lines, stats_line, made_line};
 ghost use Rattle.report_lines.specs.Rows.{IsRow};
-ghost use Rattle.std.specs.Prelude.{◌++◌};
 ghost use Rattle.report_answers.specs.Found.{found_in};
-ghost use Rattle.report_answers.specs.Report.{where_asked, listed_text, noted_text, counted_text, report_text};
+ghost use Rattle.report_answers.specs.Report.{where_asked, report_text};
 
 use crate::options::Options;
 use class_table::ClassTable;
@@ -72,63 +71,6 @@ fn write_asked_stats<K: Sink>(
     }
 }
 
-/// Writes the nodes, where they are asked for, and the tables.
-fn write_listed<K: Sink>(
-    alloc: Global,
-    line: &mut Line,
-    ret: &SemanticBuilderReturn<'_>,
-    options: Options,
-    out: &mut K,
-) -> Result<(), ReportError>
-    ensures { WritesLines K.held K.faults K.Offered IsRow out.old out.new
-        (listed_text options (found_in ret.now)) result }
-{
-    write_asked_nodes(line, options.nodes, ret.semantic.nodes(), out)?;
-    write_tables(alloc, line, ret.semantic.scoping(), out)
-}
-
-/// Writes the classes, where they are asked for, and the unused labels.
-fn write_noted<K: Sink>(
-    line: &mut Line,
-    ret: &SemanticBuilderReturn<'_>,
-    options: Options,
-    out: &mut K,
-) -> Result<(), ReportError>
-    ensures { WritesLines K.held K.faults K.Offered IsRow out.old out.new
-        (noted_text options (found_in ret.now)) result }
-{
-    write_asked_classes(line, options.classes, ret.semantic.classes(), out)?;
-    write_labels(line, ret.semantic.unused_labels(), out)
-}
-
-/// Writes the counts, where they are asked for, and the diagnostics.
-fn write_counted<K: Sink>(
-    line: &mut Line,
-    ret: &SemanticBuilderReturn<'_>,
-    options: Options,
-    out: &mut K,
-) -> Result<(), ReportError>
-    ensures { WritesLines K.held K.faults K.Offered IsRow out.old out.new
-        (counted_text options (found_in ret.now)) result }
-{
-    write_asked_stats(line, options.stats, &ret.semantic, out)?;
-    write_diagnostics(line, &ret.diagnostics, out)
-}
-
-/// Writes what stands behind the tables.
-fn write_behind_tables<K: Sink>(
-    line: &mut Line,
-    ret: &SemanticBuilderReturn<'_>,
-    options: Options,
-    out: &mut K,
-) -> Result<(), ReportError>
-    ensures { WritesLines K.held K.faults K.Offered IsRow out.old out.new
-        (noted_text options (found_in ret.now) ++ counted_text options (found_in ret.now)) result }
-{
-    write_noted(line, ret, options, out)?;
-    write_counted(line, ret, options, out)
-}
-
 /// Writes the report of what was found. Each line is offered as one piece, and what a call leaves of it is offered
 /// again. It answers `Write` where a call on the sink failed or took nothing, and `Memory`. The sink has taken a prefix
 /// of the report then.
@@ -142,8 +84,12 @@ pub fn write_report<K: Sink>(
         (report_text options (found_in ret.now)) result }
 {
     let mut line = Line::new(alloc);
-    write_listed(alloc, &mut line, ret, options, out)?;
-    write_behind_tables(&mut line, ret, options, out)
+    write_asked_nodes(&mut line, options.nodes, ret.semantic.nodes(), out)?;
+    write_tables(alloc, &mut line, ret.semantic.scoping(), out)?;
+    write_asked_classes(&mut line, options.classes, ret.semantic.classes(), out)?;
+    write_labels(&mut line, ret.semantic.unused_labels(), out)?;
+    write_asked_stats(&mut line, options.stats, &ret.semantic, out)?;
+    write_diagnostics(&mut line, &ret.diagnostics, out)
 }
 
 /// Writes the summary of a script that was made and analysed, with the errors of `write_report`.

@@ -1,5 +1,5 @@
 -- The text of a report, as a form.
-use Rattle.std.proofs.Common.{◌≡◌, ℕ, ◌≤◌, ◌^◌, Bool, true, false, if◌then◌else◌, List, [], ◌∷◌, ◌++◌, length, map, flat_map, codes, decimal, encode_utf8_all, option_map, append_assoc, append-nil, refl, sym, ap, ◌∙◌, arith}
+use Rattle.std.proofs.Common.{◌≡◌, ℕ, ◌≤◌, ◌^◌, Bool, true, false, if◌then◌else◌, List, [], ◌∷◌, ◌++◌, length, map, flat_map, codes, decimal, encode_utf8_all, option_map, append-nil, refl, sym, ap, ◌∙◌, arith}
 use Rattle.std.specs.List.{AllByRecursion}
 use Rattle.semantic_model.specs.Class.{Class}
 use Rattle.semantic_diagnostics.specs.declared.diagnostic.Label.{Label}
@@ -12,7 +12,7 @@ use Rattle.report_ends.specs.Streams.{numbered_text}
 use Rattle.report_lines.specs.Pieces as pieces
 use Rattle.report_lines.specs.TableLines.{table_lines}
 use Rattle.report_lines.specs.ClassLines.{all_class_lines}
-use Rattle.report_lines.specs.CountLines.{node_line_by, node_lines, label_line, stats_line}
+use Rattle.report_lines.specs.CountLines.{node_line_by, label_line, stats_line}
 use Rattle.report_lines.specs.DiagnosticLine.{said_or_dash, label_text, diagnostic_line}
 use Rattle.report_answers.specs.Found.{Found}
 use Rattle.report_answers.specs.Report.{where_asked, noted_text, counted_text, report_text}
@@ -114,10 +114,9 @@ pub diagnosed_written : (found : Found) → diagnosed found ≡ written (each (c
 diagnosed_written found =
     sym (append-nil (diagnosed found)) ∙ each_line (codes "diag ") (written diagnostic_form) diagnostic_line diagnostic_value diagnostic_written found.diagnostics [] [] refl
 
-tail_written : (o : Options) (found : Found) (cs : List Class) → found.classes ≡ lists_told cs → noted_text o found ++ counted_text o found ≡ written tail_form (tail_value o found cs) (diagnosed found)
+tail_written : (o : Options) (found : Found) (cs : List Class) → found.classes ≡ lists_told cs → noted_text o found ≡ written tail_form (tail_value o found cs) (diagnosed found)
 tail_written o found cs are =
-    append_assoc (where_asked o.classes (all_class_lines found.classes)) (flat_map label_line found.labels) (counted_text o found)
-    ∙ ap (λ text. text ++ (flat_map label_line found.labels ++ counted_text o found)) (ap (λ lists. where_asked o.classes (all_class_lines lists)) are ∙ asked_classes o.classes cs)
+    ap (λ text. text ++ (flat_map label_line found.labels ++ counted_text o found)) (ap (λ lists. where_asked o.classes (all_class_lines lists)) are ∙ asked_classes o.classes cs)
     ∙ numbered_lines (codes "class ") (written class_form) class_text class_value class_written 0 (if_asked o.classes cs) (flat_map label_line found.labels ++ counted_text o found)
     (written (each (codes "label ") label_form (each (codes "stats") stats_form end)) (map label_value found.labels, counted_value o found) (diagnosed found))
     (each_line (codes "label ") (written label_form) label_line label_value label_written found.labels (counted_text o found)
@@ -125,10 +124,9 @@ tail_written o found cs are =
 
 pub report_written : (o : Options) (found : Found) (cs : List Class) → found.classes ≡ lists_told cs → report_text o found ≡ written report_form (report_value o found cs) (diagnosed found)
 report_written o found cs are =
-    append_assoc (where_asked o.nodes (node_lines found.nodes)) (table_lines found.tables) (noted_text o found ++ counted_text o found)
-    ∙ ap (λ text. text ++ (table_lines found.tables ++ (noted_text o found ++ counted_text o found))) (asked_lines o.nodes (node_line_by found.nodes.parents) (numbered_from 0 found.nodes.nodes))
+    ap (λ text. text ++ (table_lines found.tables ++ noted_text o found)) (asked_lines o.nodes (node_line_by found.nodes.parents) (numbered_from 0 found.nodes.nodes))
     ∙ each_line (codes "node ") (written node_form) (node_line_by found.nodes.parents) (node_value found.nodes.parents) (node_written found.nodes.parents) (if_asked o.nodes (numbered_from 0 found.nodes.nodes))
-    (table_lines found.tables ++ (noted_text o found ++ counted_text o found)) (written (table_form tail_form) (table_value tail_form found.tables (tail_value o found cs)) (diagnosed found))
+    (table_lines found.tables ++ noted_text o found) (written (table_form tail_form) (table_value tail_form found.tables (tail_value o found cs)) (diagnosed found))
     (ap (λ text. table_lines found.tables ++ text) (tail_written o found cs are) ∙ tables_written tail_form (tail_value o found cs) found.tables (diagnosed found))
 
 -- ---- what is told can be read back

@@ -210,15 +210,16 @@ impl Line {
         self.push(&value.to_string(self.alloc)?)
     }
 
-    /// Offers the line to a sink as one piece, and what a call leaves of it again.
-    pub fn offer<K: Sink>(&self, out: &mut K) -> Result<(), ReportError>
+    // Offers the line to a sink as one piece, and what a call leaves of it again.
+    fn offer<K: Sink>(&self, out: &mut K) -> Result<(), ReportError>
         ensures written { Writes K.held K.faults out.old out.new self.now result }
         ensures pieces { OffersPiece K.Offered out.old out.new self.now result }
     {
         write_whole(&self.bytes, out)
     }
 
-    /// Offers the line that was to be made. Where memory was wanting to make it nothing is offered.
+    /// Offers the line that was to be made to a sink, as one piece, and what a call leaves of it again. Where memory was
+    /// wanting to make it nothing is offered.
     pub fn offer_made<K: Sink>(
         &self,
         made: Result<(), AllocError>,

@@ -32,7 +32,7 @@ fn write_element<K: Sink>(
     ensures { WritesLines K.held K.faults K.Offered IsRow out.old out.new
         (element_line class number (element_seen element.now)) result }
 {
-    make_element_line(
+    let made = make_element_line(
         line,
         class,
         number,
@@ -41,8 +41,8 @@ fn write_element<K: Sink>(
         element.is_private,
         element.is_static,
         element.kind,
-    )?;
-    line.offer(out)
+    );
+    line.offer_made(made, out)
 }
 
 fn write_elements<K: Sink>(

@@ -23,8 +23,8 @@ fn write_node<K: Sink>(
         (node_line_by nodes.now.parents (id, seen node.now)) result }
 {
     let parent = nodes.parent_id(id);
-    make_node_line(line, id, node.kind().ty(), parent, node.scope_id())?;
-    line.offer(out)
+    let made = make_node_line(line, id, node.kind().ty(), parent, node.scope_id());
+    line.offer_made(made, out)
 }
 
 /// Writes the lines of the nodes, in the order of their ids.

@@ -57,13 +57,13 @@ fn write_reference<K: Sink>(
         (reference_line scoping.now reference (reference_of scoping.now reference)) result }
 {
     let name = reference_name(scoping, names, reference);
-    make_reference_line(
+    let made = make_reference_line(
         line,
         reference.index(),
         name,
         scoping.get_reference(reference),
-    )?;
-    line.offer(out)
+    );
+    line.offer_made(made, out)
 }
 
 fn write_named<K: Sink>(

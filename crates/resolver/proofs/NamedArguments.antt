@@ -1,6 +1,8 @@
 -- Whether a text is `arguments`, told by its characters.
-use Rattle.std.proofs.Common.{◌≡◌, ℕ, List, ap, sym, ◌∙◌, refl, codes}
+use Rattle.std.proofs.Common.{◌≡◌, ◌==◌, ℕ, List, Bool, true, false, length, ap, sym, ◌∙◌, refl, codes}
 use Rattle.std.specs.Str.{chars, IsUtf8, bytes_eq}
+use Rattle.std.proofs.lemmas.Bool.Decides.{Decides-eqb}
+use Rattle.std.proofs.lemmas.Slice.Eq.{bytes_eq-Decides}
 use Rattle.std.proofs.lemmas.Str.{IsUtf8-from_ascii}
 use Rattle.semantic_kinds.proofs.Ascii.{ascii_text, ascii_chars}
 use Rattle.semantic_syntax.proofs.SameTexts.{same_texts}
@@ -9,3 +11,19 @@ pub named_arguments : (text : List ℕ) → IsUtf8 text → bytes_eq (chars text
 named_arguments text u =
     ap (λ t. bytes_eq (chars text) t) (sym (ascii_chars (codes "arguments") refl))
     ∙ same_texts text (codes "arguments") u (IsUtf8-from_ascii (codes "arguments") (ascii_text (codes "arguments") refl))
+
+-- a text of another length is another one
+module _ (text : List ℕ) (other : length text ≡ 9 → ⊥) where
+  pub other_length : (length text == 9) ≡ false
+  other_length = by (length text == 9) refl
+    where
+      by : (b : Bool) → (length text == 9) ≡ b → b ≡ false
+      by true e = absurd (other ((Decides-eqb (length text) 9).0 e))
+      by false e = refl
+
+  pub other_text : bytes_eq text (codes "arguments") ≡ false
+  other_text = by (bytes_eq text (codes "arguments")) refl
+    where
+      by : (b : Bool) → bytes_eq text (codes "arguments") ≡ b → b ≡ false
+      by true e = absurd (other (ap length ((bytes_eq-Decides text (codes "arguments")).0 e)))
+      by false e = refl

@@ -16,10 +16,12 @@ use crate::rules::usable;
 use scoping::{BindingSource, NamePlace};
 use semantic_syntax::{Ident, ReferenceFlags, ScopeFlags, ScopeId, Steps, SymbolFlags, SymbolId};
 
+// Whether the name is `arguments`. Its length is asked first, by which most names differ.
 fn is_named_arguments(name: Ident<'_>) -> bool
     ensures { result ≡ bytes_eq (chars name.entry.text.now) (codes "arguments") }
 {
-    name.as_str() == "arguments"
+    let text = name.as_str();
+    text.len() == 9 && text == "arguments"
 }
 
 // Whether the reference means the arguments of the function around it (ECMAScript 10.4.4, Arguments Exotic Objects).
@@ -30,12 +32,13 @@ fn means_arguments(name: Ident<'_>, way: ReferenceFlags) -> bool
 }
 
 // Whether a symbol with the flags fits the reference. `arguments` is never the own name of a function expression,
-// which binds its arguments within (ECMAScript 10.2.11, FunctionDeclarationInstantiation).
+// which binds its arguments within (ECMAScript 10.2.11, FunctionDeclarationInstantiation). Most symbols are no such
+// names, so the reference's name is read last.
 fn fits_symbol(name: Ident<'_>, way: ReferenceFlags, flags: SymbolFlags) -> bool
     ensures { result ≡ fits (chars name.entry.text.now) way.bits flags.bits }
 {
     usable(way, flags)
-        && !(means_arguments(name, way) && flags.intersects(SymbolFlags::FunctionExpression))
+        && !(flags.intersects(SymbolFlags::FunctionExpression) && means_arguments(name, way))
 }
 
 // The symbol that the scope ties the reference to, if any.
@@ -62,7 +65,7 @@ fn tied_in<L, B: BindingSource<L>>(
 }
 
 // Whether the look-up ends as free after the scope: `arguments` isn't looked up past a function that is no arrow,
-// since each such one binds it (ECMAScript 10.2.11, FunctionDeclarationInstantiation).
+// since each such one binds it (ECMAScript 10.2.11, FunctionDeclarationInstantiation). The name is read last.
 fn is_barrier<L, B: BindingSource<L>>(
     scope: ScopeId,
     name: Ident<'_>,
@@ -74,7 +77,7 @@ fn is_barrier<L, B: BindingSource<L>>(
         ((B.meaning source.now).scope_flags scope) }
 {
     let flags = source.flags_of_scope(scope);
-    means_arguments(name, way) && flags.is_function() && !flags.is_arrow()
+    flags.is_function() && !flags.is_arrow() && means_arguments(name, way)
 }
 
 // Whether the scope is the last one to be asked.

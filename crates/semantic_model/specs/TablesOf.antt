@@ -29,6 +29,7 @@ is_direct_eval node =
     is kind.CallExpression node && not (has mark.Optional node)
     && holds (λ callee. is kind.IdentifierReference (inner_expression callee) && has_text (codes "eval") (inner_expression callee)) (child_of role.Callee node)
 
+-- the numbers of scopes
 abbrev pub numbers : List OpenScope → List ℕ
 numbers chain = map (λ s. s.number) chain
 
@@ -105,6 +106,10 @@ tables_from opened st ts ordered = record {
   free = free_of ordered;
   pure_symbols = pure_of st;
 }
+
+-- the declarations of a program in order, each with its symbol
+abbrev pub made_of : Tree → List Made
+made_of program = (run start (events (steps program))).made
 
 -- the tables of the steps of a program
 abbrev pub tables_by : List Step → Tables

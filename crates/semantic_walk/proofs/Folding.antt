@@ -19,11 +19,12 @@ use Rattle.semantic_model.specs.Names.{names_at}
 use Rattle.semantic_tree.specs.Views.{has}
 use Rattle.semantic_model.specs.Place.{Place, OpenScope}
 use Rattle.semantic_model.specs.Step.{Step, entering, opening, header_ending, closing, leaving, steps}
+use Rattle.semantic_model.specs.TablesOf.{numbers}
 use Rattle.walk_model.specs.Noted.{with_entry}
 use Rattle.walk_model.specs.Opens.{innermost_number, open_scope}
 use Rattle.walk_model.specs.Shown.{ShowsChain, IsGrounded}
 use Rattle.walk_model.specs.WalkState.{WalkState, nothing_made}
-use Rattle.walk_model.specs.Walks.{numbers, act_all, after, after_all}
+use Rattle.walk_model.specs.Walks.{act_all, after, after_all}
 use Rattle.walk_model.proofs.turns.ChainsShown.{acts_rows, step_rows}
 use Rattle.walk_model.proofs.places.Grounds.{AllGrounded, all_grounded}
 use Rattle.walk_model.proofs.places.Nested.{Descends, AreNested, open_past, seen_past, seen_after}

@@ -13,11 +13,12 @@ use Rattle.semantic_model.specs.Declaration.{Declaration, plain, hoisted, moved,
 use Rattle.semantic_model.specs.Event.{declares, placed, any_bars, is_barred, declares_all}
 use Rattle.semantic_model.specs.Binder as binder
 use Rattle.semantic_model.specs.Binder.{declare_here, is_var, is_conditional}
+use Rattle.semantic_model.specs.TablesOf.{numbers}
 use Rattle.walk_model.specs.WalkState.{WalkState}
 use Rattle.walk_model.specs.Declares.{declare}
 use Rattle.walk_model.specs.Hoists.{hoist, declare_and_move}
 use Rattle.walk_model.specs.Shown.{IsOther, ShowsChain, HasVar}
-use Rattle.walk_model.specs.Walks.{numbers, act_all}
+use Rattle.walk_model.specs.Walks.{act_all}
 use Rattle.walk_model.specs.WrittenNames.{WrittenName, is_written}
 use Rattle.walk_model.specs.NamedScopes.{IsNamedIn, AreNamedIn}
 use Rattle.walk_model.proofs.turns.RowEvents.{acts_plain, acts_hoisted, acts_move, past_stands}

@@ -5,7 +5,7 @@ ghost use Rattle.mangle_model.specs.OneNameEach.{joining, symbol_names};
 ghost use Rattle.simple_names.specs.TakenNames.{changes_by};
 
 use crate::sets::Taken;
-use mangle_names::NameSet;
+use name_sets::NameSet;
 use scoping::Scoping;
 use semantic_syntax::SymbolId;
 use std::alloc::{AllocError, Global};

@@ -11,7 +11,7 @@ ghost use Rattle.simple_names.specs.NextNames.{unused_from};
 use crate::name_map::NameMap;
 use crate::next_name::next_unused;
 use crate::sets::Taken;
-use mangle_names::NameSet;
+use name_sets::NameSet;
 use std::alloc::{AllocError, Global};
 
 /// Whether the new name is shorter.

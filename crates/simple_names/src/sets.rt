@@ -7,7 +7,8 @@ ghost use Rattle.simple_names.specs.TakenNames.{changes_by, unused_by, AreTaken}
 
 use crate::known::Known;
 use crate::standing::standing_names;
-use mangle_names::{NameSet, barred_names, is_reserved};
+use mangle_names::{barred_names, is_reserved};
+use name_sets::NameSet;
 use semantic_tree::Program;
 use std::alloc::{AllocError, Global};
 

@@ -8,7 +8,7 @@ ghost use Rattle.simple_names.specs.Telling.{is_name_among, may_by, told_by};
 
 use crate::known::{Known, bears_such};
 use crate::settings::{is_named, setting_below};
-use mangle_names::NameSet;
+use name_sets::NameSet;
 use semantic_tree::swap::Setting;
 use semantic_tree::{Node, Program, Role};
 use std::alloc::{AllocError, Global};

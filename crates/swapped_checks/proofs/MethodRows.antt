@@ -1,6 +1,8 @@
 -- Rows on methods and signatures, where names are others.
-use Rattle.std.proofs.Common.{◌≡◌, List, [], ◌∷◌, ◌++◌, ◌&&◌, ◌||◌, not, refl, sym, subst, ◌∙◌, inl, inr, map, bytes_eq, codes, length}
+use Rattle.std.proofs.Common.{◌≡◌, List, [], ◌∷◌, ◌++◌, true, ◌&&◌, ◌||◌, not, refl, sym, subst, ◌∙◌, inl, inr, map, bytes_eq, codes, length}
 use Rattle.std.specs.Prelude.{reverse, nat_lt}
+use Rattle.semantic_syntax.proofs.Truth.{and_first}
+use Rattle.semantic_kinds.specs.Kinds.{same_kind}
 use Rattle.semantic_kinds.specs.declared.kind.AstType.TheVariants as kind
 use Rattle.semantic_kinds.specs.declared.mark.Mark.TheVariants as mark
 use Rattle.semantic_kinds.specs.declared.role.Role.{Role}
@@ -17,10 +19,10 @@ use Rattle.check_model.specs.Search.{rows_if, row_if, each_after, find_last}
 use Rattle.check_model.specs.Sight.{Sight}
 use Rattle.swapped_checks.specs.RuleWords.{KeepsRuleWords}
 use Rattle.semantic_model.specs.Entries.{Among}
-use Rattle.swapped_checks.specs.SwappedSight.{KeepsParameters}
+use Rattle.swapped_checks.specs.SwappedSight.{is_signature_list, KeepsParameters}
 use Rattle.swapped_checks.specs.SwappedRows.{AreToldAgain, redeclared_by_name}
 use Rattle.swapped_checks.proofs.Changed.{Change, IsChanged}
-use Rattle.swapped_checks.proofs.Pairwise.{Each, Agree, find_each, reverse_each, length_each, some_same, some_rows, flat_same, flat_each, told_if, after_rows}
+use Rattle.swapped_checks.proofs.Pairwise.{Each, Agree, find_each, reverse_each, length_each, some_same, some_rows, flat_same, flat_each, told_where, after_rows}
 use Rattle.swapped_checks.proofs.RenamedNodes.{IsBound, mark_agrees, same_spans, word_agrees, all_each, child_both, bound_each, bound_text}
 use Rattle.swapped_checks.proofs.Around.{seen, own, own_text}
 
@@ -84,9 +86,12 @@ module _ (f : Change) (keeps : KeepsRuleWords f.names) (s : Sight) (st : Setting
         (find_each P (λ other. bytes_eq other.text a.text) (λ other. bytes_eq other.text b.text)
         (λ x y h. (λ i. bytes_eq (bound_text f x y h.0 i) (bound_text f a b e.0 i)) ∙ apart x.text a.text h.1 e.1) (reverse us) (reverse vs) (reverse_each P us vs d))
 
-    pub parameters_told : s.node.kind ≡ kind.FormalParameters → AreToldAgain f.names (check_formal_parameters s) (check_formal_parameters t)
-    parameters_told k =
-        told_if f.names (has_text (codes "signature") s.node && nat_lt 1 (length (all_in role.Items s.node))) (has_text (codes "signature") t.node && nat_lt 1 (length (all_in role.Items t.node)))
-        (each_after repeated_rows [] (bound_names s.node)) (each_after repeated_rows [] (bound_names t.node))
-        (λ i. bytes_eq (own_text f s st r path above kind.FormalParameters refl refl k i) (codes "signature") && nat_lt 1 (length_each R (all_in role.Items s.node) (all_in role.Items t.node) (all_each f role.Items s.node t.node mine) i))
-        (after_rows f.names P repeated_rows repeated_rows repeated_told [] [] (bound_names s.node) (bound_names t.node) tt (named_each (bound_names s.node) (bound_names t.node) (bound_each f s.node t.node mine) (map (λ x. x.text) (bound_names s.node)) (λ u h. h)))
+    repeats_told : AreToldAgain f.names (each_after repeated_rows [] (bound_names s.node)) (each_after repeated_rows [] (bound_names t.node))
+    repeats_told = after_rows f.names P repeated_rows repeated_rows repeated_told [] [] (bound_names s.node) (bound_names t.node) tt (named_each (bound_names s.node) (bound_names t.node) (bound_each f s.node t.node mine) (map (λ x. x.text) (bound_names s.node)) (λ u h. h))
+
+  pub parameters_told : (is_signature_list s.node ≡ true → KeepsParameters f.names s.node) → s.node.kind ≡ kind.FormalParameters → AreToldAgain f.names (check_formal_parameters s) (check_formal_parameters t)
+  parameters_told apart k =
+      told_where f.names (has_text (codes "signature") s.node && nat_lt 1 (length (all_in role.Items s.node))) (has_text (codes "signature") t.node && nat_lt 1 (length (all_in role.Items t.node)))
+      (each_after repeated_rows [] (bound_names s.node)) (each_after repeated_rows [] (bound_names t.node))
+      (λ i. bytes_eq (own_text f s st r path above kind.FormalParameters refl refl k i) (codes "signature") && nat_lt 1 (length_each R (all_in role.Items s.node) (all_in role.Items t.node) (all_each f role.Items s.node t.node mine) i))
+      (λ h. repeats_told (apart ((λ i. same_kind (k i) kind.FormalParameters && has_text (codes "signature") s.node) ∙ and_first (has_text (codes "signature") s.node) (nat_lt 1 (length (all_in role.Items s.node))) h)))

@@ -197,6 +197,14 @@ module _ (f : Name → Name) where
       go true = h
       go false = tt
 
+  -- the same where the rows are told at all
+  pub told_where : (b c : Bool) (xs ys : List Diagnostic) → c ≡ b → (b ≡ true → AreToldAgain f xs ys) → AreToldAgain f (rows_if b xs) (rows_if c ys)
+  told_where b c xs ys e h = subst (λ d. AreToldAgain f (rows_if b xs) (rows_if d ys)) (sym e) (go b h)
+    where
+      go : (d : Bool) → (d ≡ true → AreToldAgain f xs ys) → AreToldAgain f (rows_if d xs) (rows_if d ys)
+      go true k = k refl
+      go false k = tt
+
   module _ {A : Type 0} (R : A → A → Type 0) where
     pub flat_rows : (g h : A → List Diagnostic) → ((x y : A) → R x y → AreToldAgain f (g x) (h y)) → (xs ys : List A) → Each R xs ys → AreToldAgain f (flat_map g xs) (flat_map h ys)
     flat_rows g h k [] [] e = tt

@@ -1,9 +1,9 @@
 -- What rules see at a place of a program is what they see at that place of the program with other names, with other names.
-use Rattle.std.proofs.Common.{◌≡◌, ℕ, List, [], ◌∷◌, Bool, true, ◌&&◌, ◌||◌, not, inl, inr, refl, ap, ◌∙◌, map}
+use Rattle.std.proofs.Common.{◌≡◌, ℕ, List, [], ◌∷◌, Bool, true, false, ◌&&◌, ◌||◌, ◌==◌, cond, not, inl, inr, refl, ap, ◌∙◌, map}
 use Rattle.std.specs.List.{list_all}
 use Rattle.std.proofs.lemmas.Bool.{and_from}
 use Rattle.semantic_syntax.proofs.Truth.{and_first}
-use Rattle.semantic_syntax.specs.Tables.{Name}
+use Rattle.semantic_syntax.specs.Tables.{Name, Bindings}
 use Rattle.semantic_kinds.specs.Kinds.{same_kind}
 use Rattle.semantic_kinds.specs.declared.kind.AstType.TheVariants as kind
 use Rattle.semantic_kinds.specs.declared.mark.Mark.TheVariants as mark
@@ -12,17 +12,16 @@ use Rattle.semantic_tree.specs.Forest.{Forest}
 use Rattle.semantic_tree.specs.Views.{is, all_in}
 use Rattle.semantic_tree.specs.declared.node.Node.{Node}
 use Rattle.semantic_model.specs.Ambient.{ambient_inside}
-use Rattle.semantic_model.specs.Binding.{bound_by}
+use Rattle.semantic_model.specs.Binding.{Binding, bound_by}
 use Rattle.semantic_model.specs.Fold.{State, Made}
 use Rattle.semantic_model.specs.Place.{Place, OpenScope}
 use Rattle.semantic_model.specs.ScopeKind.{opened_scope}
-use Rattle.semantic_model.specs.Swap.{renamed_key}
-use Rattle.semantic_model.proofs.swapped.AlikeFold.{renamed_made, renamed_state, bound_by_same}
-use Rattle.semantic_model.proofs.swapped.AlikeProgram.{Keeps}
+use Rattle.semantic_model.specs.Swap.{renamed_symbol}
+use Rattle.semantic_model.proofs.swapped.AlikeFold.{renamed_made, renamed_bindings, renamed_state}
 use Rattle.semantic_model.proofs.swapped.AlikeScopes.{re, opened_same}
 use Rattle.semantic_model.proofs.swapped.AlikeSteps.{SamePlace}
 use Rattle.check_model.specs.Classes.{members}
-use Rattle.check_model.specs.SightOf.{seen_scope, or_own, scopes_at, symbol_pair, list_if, bound_by_root, sight_of}
+use Rattle.check_model.specs.SightOf.{seen_scope, or_own, scopes_at, symbol_pair, list_if, sight_of}
 use Rattle.swapped_checks.specs.RuleWords.{KeepsRuleWords}
 use Rattle.swapped_checks.specs.SwappedPrograms.{holds_below}
 use Rattle.program_laws.proofs.ScopeMarks.{remarked_place}
@@ -41,7 +40,7 @@ pub record Tells (f : Name → Name) (test : Node → Bool) : Type 0 where
   pub pieces : (n : Node) → test n ≡ true → has_own_pieces n ≡ true
   pub strings : (n : Node) → test n ≡ true → is kind.StringLiteral n ≡ true → f n.text ≡ n.text
 
-module _ (f : Change) (words : KeepsRuleWords f.names) (keeps : Keeps f.names) (test : Node → Bool) (tells : Tells f.names test) where
+module _ (f : Change) (words : KeepsRuleWords f.names) (test : Node → Bool) (tells : Tells f.names test) where
   abbrev W : Node → Node → Type 0
   W = Within f test
 
@@ -88,16 +87,28 @@ module _ (f : Change) (words : KeepsRuleWords f.names) (keeps : Keeps f.names) (
       ap (λ x. ambient_inside x.node x.is_ambient) s.is
       ∙ ap (λ b. p.is_ambient || (b && not (is kind.AccessorProperty p.node))) (f.kept p.node mark.Declare refl)
 
+  -- ---- a state with other names
+
   pairs_same : (ms : List Made) → map symbol_pair (map (renamed_made f.names) ms) ≡ map symbol_pair ms
   pairs_same [] = refl
   pairs_same (m ∷ ms) = ap (λ ps. symbol_pair m ∷ ps) (pairs_same ms)
 
-  seconds : (bs : List (Name × ℕ)) → map (λ b. b.1) (map (renamed_key f.names) bs) ≡ map (λ b. b.1) bs
-  seconds [] = refl
-  seconds (b ∷ bs) = ap (λ ns. b.1 ∷ ns) (seconds bs)
+  bound_same : (bs : List Binding) → map (λ b. b.1) (bound_by (renamed_bindings f.names bs) 0) ≡ map (λ b. b.1) (bound_by bs 0)
+  bound_same [] = refl
+  bound_same (b ∷ bs) = go (b.scope == 0) (bound_by (renamed_bindings f.names bs) 0) (bound_by bs 0) (bound_same bs)
+    where
+      go : (t : Bool) (xs ys : Bindings) → map (λ x. x.1) xs ≡ map (λ x. x.1) ys → map (λ x. x.1) (cond t ((f.names b.name, b.symbol) ∷ xs) xs) ≡ map (λ x. x.1) (cond t ((b.name, b.symbol) ∷ ys) ys)
+      go true xs ys e = ap (λ ns. b.symbol ∷ ns) e
+      go false xs ys e = e
 
-  bound_seen : (a b : Node) → W a b → (st : State) → bound_by_root b (renamed_state f.names st) ≡ bound_by_root a st
-  bound_seen a b w st = λ i. list_if (same_kind (same_kinds f a b w.0 i) kind.Program) ((ap (map (λ b. b.1)) (bound_by_same f.names keeps st.bindings 0) ∙ seconds (bound_by st.bindings 0)) i)
+  -- two states of which the second has other names, as far as rules see
+  pub record SeenState (st sw : State) : Type 0 where
+    pub symbols : sw.symbols ≡ map (renamed_symbol f.names) st.symbols
+    pub declared : map symbol_pair sw.made ≡ map symbol_pair st.made
+    pub bound : map (λ b. b.1) (bound_by sw.bindings 0) ≡ map (λ b. b.1) (bound_by st.bindings 0)
+
+  pub seen_state : (st : State) → SeenState st (renamed_state f.names st)
+  seen_state st = record { symbols = refl; declared = pairs_same st.made; bound = bound_same st.bindings }
 
   -- ---- the sight
 
@@ -113,11 +124,11 @@ module _ (f : Change) (words : KeepsRuleWords f.names) (keeps : Keeps f.names) (
     | inr e ↦ e ∙ tells.strings a (and_first (test a) (holds_below test a.children) w.1) h
   ]
 
-  pub seen_place : (source free : List ℕ) (st : State) (p q : Place) → SamePlace f.names (remarked_place f.marks p) q → Spot f test p q → IsChangedSight f (sight_of source free st p) (sight_of source free (renamed_state f.names st) q)
-  seen_place source free st p q s w = record {
+  pub seen_place : (source free : List ℕ) (st sw : State) (p q : Place) → SeenState st sw → SamePlace f.names (remarked_place f.marks p) q → Spot f test p q → IsChangedSight f (sight_of source free st p) (sight_of source free sw q)
+  seen_place source free st sw p q k s w = record {
     node = w.0.0;
     path = changed_each p.path q.path w.1;
-    symbols = refl;
+    symbols = k.symbols;
     others = λ i. record {
       node = q.node;
       path = q.path;
@@ -125,12 +136,12 @@ module _ (f : Change) (words : KeepsRuleWords f.names) (keeps : Keeps f.names) (
       source_type = ap (λ x. x.source_type) s.is i;
       is_ambient = ambient_seen p q s i;
       scopes = scopes_seen p q s i;
-      symbols = (renamed_state f.names st).symbols;
-      declared = pairs_same st.made i;
+      symbols = sw.symbols;
+      declared = k.declared i;
       classes = classes_same f words test tells.pieces p.node q.node p.path q.path w.0 w.1 i;
       uses = uses_seen f words test tells.pieces p.node q.node w.0 i;
       elements = elements_seen f words test tells.pieces p.node q.node w.0 i;
-      bound = bound_seen p.node q.node w.0 st i;
+      bound = list_if (same_kind (same_kinds f p.node q.node w.0.0 i) kind.Program) (k.bound i);
       unresolved = ap (λ k. list_if (same_kind k kind.Program) free) (same_kinds f p.node q.node w.0.0) i;
     };
     strings = string_kept p.node q.node w.0;

@@ -31,7 +31,7 @@ use Rattle.check_model.specs.Sight.{Sight}
 use Rattle.program_laws.specs.Remarked.{remarked, remarked_node, remarked_tree}
 use Rattle.swapped_checks.specs.SwappedPrograms.{holds_below, holds_within, is_other_string, is_short_prototype, keeps_prototype}
 use Rattle.swapped_checks.specs.RuleWords.{rule_words, is_rule_word, KeepsRuleWords}
-use Rattle.swapped_checks.specs.SwappedSight.{HasPlainParts, IsRenamed, renamed_at, AreRenamed, IsRenamedSight, KeepsParameters, has_plain_labels}
+use Rattle.swapped_checks.specs.SwappedSight.{HasPlainParts, IsRenamed, renamed_at, AreRenamed, IsRenamedSight, is_signature_list, KeepsParameters, has_plain_labels}
 use Rattle.swapped_checks.specs.SwappedRows.{AreToldAgain, IsToldAgain, told_the_same, redeclared_by_name, exported_by_name}
 use Rattle.swapped_checks.proofs.Changed.{Change, IsChanged, changed_at, IsChangedSight}
 use Rattle.swapped_checks.proofs.Pairwise.{Each}
@@ -183,7 +183,7 @@ module _ (f : Name → Name) where
   named_sight : (s t : Sight) → IsRenamedSight f s t → IsChangedSight named s t
   named_sight s t w = record { node = named_node s.node t.node w.node; path = named_each s.path t.path w.path; symbols = w.symbols; others = w.others; strings = w.strings }
 
-pub renamed_rows : (f : Name → Name) (s t : Sight) → KeepsRuleWords f → HasPlainParts s → IsRenamedSight f s t → (is kind.FormalParameters s.node ≡ true → KeepsParameters f s.node) → AreToldAgain f (rows_of s) (rows_of t)
+pub renamed_rows : (f : Name → Name) (s t : Sight) → KeepsRuleWords f → HasPlainParts s → IsRenamedSight f s t → (is_signature_list s.node ≡ true → KeepsParameters f s.node) → AreToldAgain f (rows_of s) (rows_of t)
 renamed_rows f s t words parts w names = sights_told (named f) words s t parts (named_sight f s t w) names
 
 pub swapped_rows : (a b : Name) (s t : Sight) → is_rule_word a ≡ false → is_rule_word b ≡ false → HasPlainParts s → IsRenamedSight (swap a b) s t → AreToldAgain (swap a b) (rows_of s) (rows_of t)

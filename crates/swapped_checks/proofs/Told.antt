@@ -33,7 +33,7 @@ use Rattle.check_model.specs.Surroundings.{is_in_static_block}
 use Rattle.check_model.specs.Sight.{Sight}
 use Rattle.swapped_checks.specs.RuleWords.{rule_words, is_rule_word, KeepsRuleWords}
 use Rattle.swapped_checks.specs.SwappedRows.{AreToldAgain}
-use Rattle.swapped_checks.specs.SwappedSight.{HasPlainParts, KeepsParameters}
+use Rattle.swapped_checks.specs.SwappedSight.{HasPlainParts, is_signature_list, KeepsParameters}
 use Rattle.swapped_checks.proofs.Changed.{Change, IsChanged, changed_at, IsChangedSight}
 use Rattle.swapped_checks.proofs.Pairwise.{Each, told_all, told_equal, told_append}
 use Rattle.swapped_checks.proofs.RenamedNodes.{mark_agrees, either_text}
@@ -57,7 +57,7 @@ apart words name w h i = elim (name_tells w name) [
   | inr q ↦ q.0
 ]
 
-other_way : (t u : Name) → bytes_eq t u ≡ false → bytes_eq u t ≡ false
+pub other_way : (t u : Name) → bytes_eq t u ≡ false → bytes_eq u t ≡ false
 other_way t u h = elim (name_tells u t) [ inr k ↦ k.0 | inl k ↦ elim (name_tells t u) [ inr q ↦ absurd (q.1 (sym k.1)) | inl q ↦ (let w : true ≡ false = sym q.0 ∙ h in absurd cc) ] ]
 
 behind : (a b : Bool) → (a || b) ≡ false → b ≡ false
@@ -141,7 +141,7 @@ module _ (f : Change) (keeps : KeepsRuleWords f.names) where
     loops_same : check_for_of_statement t ≡ check_for_of_statement s
     loops_same = ap (λ b. row_if (b && is_in_static_block s) (class_static_block_for_await s.node.span)) (mark_agrees f mark.Await refl s.node t.node (own f s st r path above))
 
-    module _ (parts : HasPlainParts s) (strings : is kind.StringLiteral s.node ≡ true → t.node.text ≡ s.node.text) (apart_still : is kind.FormalParameters s.node ≡ true → KeepsParameters f.names s.node) where
+    module _ (parts : HasPlainParts s) (strings : is kind.StringLiteral s.node ≡ true → t.node.text ≡ s.node.text) (apart_still : is_signature_list s.node ≡ true → KeepsParameters f.names s.node) where
       pub rows_told : (k : AstType) → s.node.kind ≡ k → AreToldAgain f.names (rows_by k s) (rows_by k t)
       rows_told kind.Program e =
           told_append f.names (check_duplicate_class_elements s ++ check_unresolved_exports s ++ check_import_value_redeclarations s) (check_duplicate_class_elements t ++ check_unresolved_exports t ++ check_import_value_redeclarations t) (check_ts_export_assignment_in_program s) (check_ts_export_assignment_in_program t)
@@ -174,7 +174,7 @@ module _ (f : Change) (keeps : KeepsRuleWords f.names) where
           (told_append f.names (check_class s) (check_class t) (check_class_redeclaration s) (check_class_redeclaration t) (told_equal f.names (check_class s) (check_class t) (classes_same f keeps s st r path above e)) (redeclared_told f keeps s st r path above))
           (told_equal f.names (typed.check_class_members s) (typed.check_class_members t) (members_same f keeps s st r path above parts.keys))
       rows_told kind.MethodDefinition e = same_told kind.MethodDefinition (methods_same f keeps s st r path above e)
-      rows_told kind.FormalParameters e = parameters_told f keeps s st r path above (apart_still (ap (λ k. same_kind k kind.FormalParameters) e)) e
+      rows_told kind.FormalParameters e = parameters_told f keeps s st r path above apart_still e
       rows_told kind.Super e = same_told kind.Super (super_same f s st r path above)
       rows_told kind.ObjectExpression e = same_told kind.ObjectExpression (objects_same f s st r path above keeps)
       rows_told kind.UnaryExpression e = same_told kind.UnaryExpression (unary_same f s st r path above e)
@@ -194,10 +194,10 @@ module _ (f : Change) (keeps : KeepsRuleWords f.names) where
   abbrev put : Sight → Node → List Node → List Symbol → Sight
   put s n path symbols = record s { node = n; path = path; symbols = symbols }
 
-  told_at : (m n : Node) → IsChanged f m n → (s : Sight) (path : List Node) → Each (IsChanged f) s.path path → HasPlainParts (put s m s.path s.symbols) → (is kind.StringLiteral m ≡ true → n.text ≡ m.text) → (is kind.FormalParameters m ≡ true → KeepsParameters f.names m) → AreToldAgain f.names (rows_of (put s m s.path s.symbols)) (rows_of (put s n path (map (renamed_symbol f.names) s.symbols)))
+  told_at : (m n : Node) → IsChanged f m n → (s : Sight) (path : List Node) → Each (IsChanged f) s.path path → HasPlainParts (put s m s.path s.symbols) → (is kind.StringLiteral m ≡ true → n.text ≡ m.text) → (is_signature_list m ≡ true → KeepsParameters f.names m) → AreToldAgain f.names (rows_of (put s m s.path s.symbols)) (rows_of (put s n path (map (renamed_symbol f.names) s.symbols)))
   told_at _ _ (changed_at st r node) s path above parts strings names = rows_told (put s node s.path s.symbols) st r path above parts strings names node.kind refl
 
-  pub sights_told : (s t : Sight) → HasPlainParts s → IsChangedSight f s t → (is kind.FormalParameters s.node ≡ true → KeepsParameters f.names s.node) → AreToldAgain f.names (rows_of s) (rows_of t)
+  pub sights_told : (s t : Sight) → HasPlainParts s → IsChangedSight f s t → (is_signature_list s.node ≡ true → KeepsParameters f.names s.node) → AreToldAgain f.names (rows_of s) (rows_of t)
   sights_told s t parts w names =
       let is : t ≡ put s t.node t.path (map (renamed_symbol f.names) s.symbols) = w.others ∙ ap (put s t.node t.path) w.symbols in
       subst (λ x. AreToldAgain f.names (rows_of s) (rows_of x)) (sym is) (told_at s.node t.node w.node s t.path w.path parts w.strings names)

@@ -1,9 +1,9 @@
 -- The diagnostics of a program with other names are those of the program, told again.
-use Rattle.std.proofs.Common.{◌≡◌, ℕ, List, [], ◌∷◌, ◌++◌, cond, if◌then◌else◌, Bool, true, false, ◌&&◌, ◌||◌, refl, sym, ap, subst, ◌∙◌, map, length, drop}
+use Rattle.std.proofs.Common.{◌≡◌, ℕ, List, [], ◌∷◌, ◌++◌, cond, if◌then◌else◌, Bool, true, false, ◌&&◌, refl, sym, ap, subst, ◌∙◌, map, length, drop}
 use Rattle.std.specs.Prelude.{filter_map}
 use Rattle.std.specs.List.{cons_option}
 use Rattle.std.specs.Str.{encode_utf8_all}
-use Rattle.std.proofs.lemmas.List.{append-nil, length-map, drop-map}
+use Rattle.std.proofs.lemmas.List.{length-map, drop-map}
 use Rattle.semantic_syntax.specs.Tables.{Tables}
 use Rattle.semantic_kinds.specs.Marks.{same_mark}
 use Rattle.semantic_kinds.specs.Roles.{same_role}
@@ -14,22 +14,20 @@ use Rattle.semantic_kinds.specs.declared.mark.Mark.TheVariants as mark
 use Rattle.semantic_tree.specs.Tree.{Tree}
 use Rattle.semantic_tree.specs.Views.{is}
 use Rattle.semantic_tree.specs.declared.node.Node.{Node}
-use Rattle.semantic_model.specs.Declaration.{How, plain, hoisted, moved, caught, Declaration}
-use Rattle.semantic_model.specs.Binder.{declared_on_entering, declared_on_opening}
-use Rattle.semantic_model.specs.Event.{takes_over, declares, written_declarations, declared_at, any_bars, is_barred, staying_declaration, placed_by, is_catch_body, taken_over, declares_all, events_of, events}
+use Rattle.semantic_model.specs.Declaration.{Declaration}
+use Rattle.semantic_model.specs.Event.{takes_over, written_declarations, declared_at, taken_over, declares_all, events_of, events}
 use Rattle.semantic_model.specs.Fold.{Conflict, State, start}
 use Rattle.semantic_model.specs.Hoist.{run}
-use Rattle.semantic_model.specs.Place.{Place, OpenScope, innermost, outside}
+use Rattle.semantic_model.specs.Place.{Place, OpenScope, innermost}
 use Rattle.semantic_model.specs.Reference.{references}
 use Rattle.semantic_model.specs.Step.{Step, entering, opening, header_ending, closing, leaving, steps}
 use Rattle.semantic_model.specs.TablesOf.{entry_of}
 use Rattle.semantic_model.specs.Tie.{Tie, tied_symbol, ties}
-use Rattle.semantic_model.proofs.swapped.Alike.{map_append}
-use Rattle.semantic_model.proofs.swapped.AlikeBinder.{renamed_declaration, ren, parent_kind}
-use Rattle.semantic_model.proofs.swapped.AlikeEvents.{renamed_event, written_same}
+use Rattle.semantic_model.proofs.swapped.AlikeBinder.{ren}
+use Rattle.semantic_model.proofs.swapped.AlikeEvents.{renamed_event, written_same, of_step}
 use Rattle.semantic_model.proofs.swapped.AlikeFold.{renamed_state, run_same}
 use Rattle.semantic_model.proofs.swapped.AlikeProgram.{Keeps, program_steps}
-use Rattle.semantic_model.proofs.swapped.AlikeSteps.{SamePlace, AlikeStep, AlikeSteps}
+use Rattle.semantic_model.proofs.swapped.AlikeSteps.{AlikeStep, AlikeSteps}
 use Rattle.semantic_model.proofs.swapped.AlikeTies.{tables_renamed}
 use Rattle.check_model.specs.DiagnosticsOf.{conflict_diagnostic, conflicts_since, rows_at, told_along, free_reference_nodes, diagnostics_of}
 use Rattle.check_model.specs.SightOf.{free_by, free_nodes, sight_of}
@@ -44,7 +42,7 @@ use Rattle.swapped_checks.specs.SwappedPrograms.{holds_within}
 use Rattle.swapped_checks.specs.SwappedRows.{AreToldAgain, redeclared_by_name}
 use Rattle.swapped_checks.proofs.Pairwise.{told_append}
 use Rattle.swapped_checks.proofs.Changed.{Change, changed_tree}
-use Rattle.swapped_checks.proofs.SeenPlaces.{Tells, plain_parts, seen_place}
+use Rattle.swapped_checks.proofs.SeenPlaces.{Tells, seen_state, plain_parts, seen_place}
 use Rattle.swapped_checks.proofs.Spots.{SpotStep, Spots, program_spots}
 use Rattle.swapped_checks.proofs.Told.{sights_told}
 
@@ -58,55 +56,6 @@ module _ (f : Change) (words : KeepsRuleWords f.names) (keeps : Keeps f.names) w
       other _ k = refl
 
   -- ---- events of a step
-
-  entering_same : (p q : Place) → SamePlace f.names p q → declared_on_entering q ≡ ren f.names keeps (declared_on_entering p)
-  entering_same p q s = sym (append-nil (declared_on_entering q)) ∙ written_same f.names keeps (entering p ∷ []) (entering q ∷ []) (s, tt) ∙ ap (ren f.names keeps) (append-nil (declared_on_entering p))
-
-  opening_same : (p q : Place) (own : OpenScope) → SamePlace f.names p q → declared_on_opening q own ≡ ren f.names keeps (declared_on_opening p own)
-  opening_same p q own s = sym (append-nil (declared_on_opening q own)) ∙ written_same f.names keeps (opening p own ∷ []) (opening q own ∷ []) ((s, refl), tt) ∙ ap (ren f.names keeps) (append-nil (declared_on_opening p own))
-
-  bars_same : (d : Declaration) (c : OpenScope) (es : List Declaration) → any_bars (renamed_declaration f.names d) c (ren f.names keeps es) ≡ any_bars d c es
-  bars_same d c [] = refl
-  bars_same d c (e ∷ es) = rw (keeps.equal e.naming.name d.naming.name, bars_same d c es) refl
-
-  barred_same : (ds : List Declaration) (d : Declaration) (cs : List OpenScope) → is_barred (ren f.names keeps ds) (renamed_declaration f.names d) cs ≡ is_barred ds d cs
-  barred_same ds d [] = refl
-  barred_same ds d (c ∷ cs) = λ i. bars_same d c ds i || barred_same ds d cs i
-
-  placed_same : (how : How) (ds : List Declaration) (d : Declaration) → placed_by how (ren f.names keeps ds) (renamed_declaration f.names d) ≡ renamed_declaration f.names (placed_by how ds d)
-  placed_same moved ds d = ap (λ b. if b then staying_declaration (renamed_declaration f.names d) else renamed_declaration f.names d) (barred_same ds d (outside d.route.passed)) ∙ go (is_barred ds d (outside d.route.passed))
-    where
-      go : (b : Bool) → (if b then staying_declaration (renamed_declaration f.names d) else renamed_declaration f.names d) ≡ renamed_declaration f.names (if b then staying_declaration d else d)
-      go true = refl
-      go false = refl
-  placed_same plain ds d = refl
-  placed_same hoisted ds d = refl
-  placed_same caught ds d = refl
-
-  all_same : (ds new : List Declaration) → declares_all (ren f.names keeps ds) (ren f.names keeps new) ≡ map (renamed_event f.names) (declares_all ds new)
-  all_same ds [] = refl
-  all_same ds (d ∷ new) = λ i. declares (placed_same d.how ds d i) ∷ all_same ds new i
-
-  taken_same : (p q : Place) (s : OpenScope) → SamePlace f.names p q → taken_over q s ≡ map (renamed_event f.names) (taken_over p s)
-  taken_same p q s w =
-      ap (λ x. taken_over x s) w.is
-      ∙ ap (λ b. cond (is kind.BlockStatement p.node && same_role p.role role.Body && b) (takes_over (innermost p.chain).number s.number ∷ []) []) (parent_kind f.names keeps kind.CatchClause p.path w.path w.above)
-      ∙ go (is_catch_body p)
-    where
-      go : (b : Bool) → cond b (takes_over (innermost p.chain).number s.number ∷ []) [] ≡ map (renamed_event f.names) (cond b (takes_over (innermost p.chain).number s.number ∷ []) [])
-      go true = refl
-      go false = refl
-
-  of_step : (ds : List Declaration) (x y : Step) → AlikeStep f.names x y → events_of (ren f.names keeps ds) y ≡ map (renamed_event f.names) (events_of ds x)
-  of_step ds (entering p) (entering q) h = ap (declares_all (ren f.names keeps ds)) (entering_same p q h) ∙ all_same ds (declared_on_entering p)
-  of_step ds (opening p s) (opening q t) h =
-      ap (λ x. events_of (ren f.names keeps ds) (opening q x)) h.1
-      ∙ (λ i. taken_same p q s h.0 i ++ (ap (declares_all (ren f.names keeps ds)) (opening_same p q s h.0) ∙ all_same ds (declared_on_opening p s)) i)
-      ∙ sym (map_append (renamed_event f.names) (taken_over p s) (declares_all ds (declared_on_opening p s)))
-  of_step ds (header_ending p s) (header_ending q t) h = ap (λ x. events_of (ren f.names keeps ds) (header_ending q x)) h.1
-  of_step ds (closing p s) (closing q t) h = refl
-  of_step ds (leaving p) (leaving q) h = refl
-  of_step ds _ _ h = absurd h
 
   -- other marks change none
   taken_marked : (p : Place) (s : OpenScope) → taken_over (remarked_place f.marks p) s ≡ taken_over p s
@@ -159,7 +108,7 @@ module _ (f : Change) (words : KeepsRuleWords f.names) (keeps : Keeps f.names) w
 
   module _ (test : Node → Bool) (tells : Tells f.names test) (source free : List ℕ) where
     step_told : (checks : Bool) (st : State) (x y : Step) → AlikeStep f.names (remarked_step f.marks x) y → SpotStep f test x y → AreToldAgain f.names (rows_at checks source free st x) (rows_at checks source free (renamed_state f.names st) y)
-    step_told true st (leaving p) (leaving q) h w = sights_told f words (sight_of source free st p) (sight_of source free (renamed_state f.names st) q) (plain_parts f words keeps test tells source free st p q w) (seen_place f words keeps test tells source free st p q h w) (λ e a b i j. keeps.equal a b)
+    step_told true st (leaving p) (leaving q) h w = sights_told f words (sight_of source free st p) (sight_of source free (renamed_state f.names st) q) (plain_parts f words test tells source free st p q w) (seen_place f words test tells source free st (renamed_state f.names st) p q (seen_state f words test tells st) h w) (λ e a b i j. keeps.equal a b)
     step_told true st (entering p) (entering q) h w = tt
     step_told true st (opening p s) (opening q t) h w = tt
     step_told true st (header_ending p s) (header_ending q t) h w = tt
@@ -167,16 +116,16 @@ module _ (f : Change) (words : KeepsRuleWords f.names) (keeps : Keeps f.names) w
     step_told true st _ _ h w = absurd h
     step_told false st x y h w = tt
 
-    along : (checks : Bool) (ds : List Declaration) (st : State) (xs ys : List Step) → AlikeSteps f.names (remarked_steps f.marks xs) ys → Spots f test xs ys → AreToldAgain f.names (told_along checks source free ds st xs) (told_along checks source free (ren f.names keeps ds) (renamed_state f.names st) ys)
+    along : (checks : Bool) (ds : List Declaration) (st : State) (xs ys : List Step) → AlikeSteps f.names (remarked_steps f.marks xs) ys → Spots f test xs ys → AreToldAgain f.names (told_along checks source free ds st xs) (told_along checks source free (ren f.names ds) (renamed_state f.names st) ys)
     along checks ds st [] [] h w = tt
     along checks ds st [] (y ∷ ys) h w = absurd h
     along checks ds st (x ∷ xs) [] h w = absurd h
     along checks ds st (x ∷ xs) (y ∷ ys) h w =
         let now : State = run st (events_of ds x) in
-        let then_now : State = run (renamed_state f.names st) (events_of (ren f.names keeps ds) y) in
-        let is : then_now ≡ renamed_state f.names now = ap (run (renamed_state f.names st)) (of_step ds (remarked_step f.marks x) y h.0 ∙ ap (map (renamed_event f.names)) (step_marked ds x)) ∙ run_same f.names keeps st (events_of ds x) in
-        subst (λ z. AreToldAgain f.names (told_along checks source free ds st (x ∷ xs)) (map conflict_diagnostic (conflicts_since (renamed_state f.names st) z) ++ rows_at checks source free z y ++ told_along checks source free (ren f.names keeps ds) z ys)) (sym is)
-        (told_append f.names (map conflict_diagnostic (conflicts_since st now) ++ rows_at checks source free now x) (map conflict_diagnostic (conflicts_since (renamed_state f.names st) (renamed_state f.names now)) ++ rows_at checks source free (renamed_state f.names now) y) (told_along checks source free ds now xs) (told_along checks source free (ren f.names keeps ds) (renamed_state f.names now) ys)
+        let then_now : State = run (renamed_state f.names st) (events_of (ren f.names ds) y) in
+        let is : then_now ≡ renamed_state f.names now = ap (run (renamed_state f.names st)) (of_step f.names keeps ds (remarked_step f.marks x) y h.0 ∙ ap (map (renamed_event f.names)) (step_marked ds x)) ∙ run_same f.names keeps st (events_of ds x) in
+        subst (λ z. AreToldAgain f.names (told_along checks source free ds st (x ∷ xs)) (map conflict_diagnostic (conflicts_since (renamed_state f.names st) z) ++ rows_at checks source free z y ++ told_along checks source free (ren f.names ds) z ys)) (sym is)
+        (told_append f.names (map conflict_diagnostic (conflicts_since st now) ++ rows_at checks source free now x) (map conflict_diagnostic (conflicts_since (renamed_state f.names st) (renamed_state f.names now)) ++ rows_at checks source free (renamed_state f.names now) y) (told_along checks source free ds now xs) (told_along checks source free (ren f.names ds) (renamed_state f.names now) ys)
         (told_append f.names (map conflict_diagnostic (conflicts_since st now)) (map conflict_diagnostic (conflicts_since (renamed_state f.names st) (renamed_state f.names now))) (rows_at checks source free now x) (rows_at checks source free (renamed_state f.names now) y)
         (subst (λ cs. AreToldAgain f.names (map conflict_diagnostic (conflicts_since st now)) (map conflict_diagnostic cs)) (sym (since_same st now)) (conflicts_told (conflicts_since st now)))
         (step_told checks now x y h.0 w.0))
@@ -189,8 +138,8 @@ module _ (f : Change) (words : KeepsRuleWords f.names) (keeps : Keeps f.names) w
       let source : List ℕ = encode_utf8_all p.source in
       let alike : AlikeSteps f.names (steps (remarked_tree f.marks p)) walk' = program_steps f.names (remarked_tree f.marks p) in
       let unmarked : AlikeSteps f.names (remarked_steps f.marks walk) walk' = subst (λ ss. AlikeSteps f.names ss walk') (steps_same f.marks reads p) alike in
-      let written : written_declarations walk' ≡ ren f.names keeps (written_declarations walk) =
-      written_same f.names keeps (steps (remarked_tree f.marks p)) walk' alike ∙ ap (ren f.names keeps) (ap written_declarations (steps_same f.marks reads p) ∙ written_marked walk) in
+      let written : written_declarations walk' ≡ ren f.names (written_declarations walk) =
+      written_same f.names keeps (steps (remarked_tree f.marks p)) walk' alike ∙ ap (ren f.names) (ap written_declarations (steps_same f.marks reads p) ∙ written_marked walk) in
       subst (λ free. AreToldAgain f.names (diagnostics_of checks p) (told_along checks source free (written_declarations walk') start walk')) (sym (free_same p))
       (subst (λ ds. AreToldAgain f.names (diagnostics_of checks p) (told_along checks source (free_reference_nodes walk) ds start walk')) (sym written)
       (along test tells source (free_reference_nodes walk) checks (written_declarations walk) start walk walk' unmarked (program_spots f test p plain_tree)))

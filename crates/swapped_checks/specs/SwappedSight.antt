@@ -1,12 +1,12 @@
 -- What rules look at, with other names.
-use Rattle.std.specs.Prelude.{◌≡◌, List, [], ◌∷◌, Bool, true, ◌||◌, map, bytes_eq}
+use Rattle.std.specs.Prelude.{◌≡◌, List, [], ◌∷◌, Bool, true, ◌&&◌, ◌||◌, map, bytes_eq, codes}
 use Rattle.std.specs.List.{list_all}
 use Rattle.semantic_kinds.specs.declared.kind.AstType.TheVariants as kind
 use Rattle.semantic_kinds.specs.declared.role.Role.{Role}
 use Rattle.semantic_kinds.specs.declared.role.Role.TheVariants as role
 use Rattle.semantic_syntax.specs.Tables.{Name}
 use Rattle.semantic_tree.specs.Renamed.{renamed_node}
-use Rattle.semantic_tree.specs.Views.{is, all_in}
+use Rattle.semantic_tree.specs.Views.{is, has_text, all_in}
 use Rattle.semantic_tree.specs.declared.node.Node.{Node}
 use Rattle.semantic_tree.specs.declared.swap.Setting.{Setting}
 use Rattle.semantic_tree.specs.BoundNames.{bound_names}
@@ -51,6 +51,10 @@ module _ (f : Name → Name) where
     pub symbols : t.symbols ≡ map (renamed_symbol f) s.symbols
     pub others : t ≡ record s { node = t.node; path = t.path; symbols = t.symbols }
     pub strings : is kind.StringLiteral s.node ≡ true → t.node.text ≡ s.node.text
+
+-- the parameters of a signature
+abbrev pub is_signature_list : Node → Bool
+is_signature_list node = is kind.FormalParameters node && has_text (codes "signature") node
 
 -- the names that a node binds, as the parameters of a signature, are the same exactly where they were
 abbrev pub KeepsParameters : (Name → Name) → Node → Type 0

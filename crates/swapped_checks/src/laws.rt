@@ -1,12 +1,10 @@
 //! Laws on early errors where two names are swapped.
 ghost use Rattle.std.specs.Prelude.{◌≡◌, [], None, Bool, false, true};
-ghost use Rattle.semantic_kinds.specs.declared.kind.AstType.TheVariants as kind;
 ghost use Rattle.semantic_kinds.specs.declared.mark.Mark.TheVariants as mark;
 ghost use Rattle.semantic_syntax.specs.Tables.{Name};
 ghost use Rattle.semantic_tree.specs.Faults.{first_fault};
 ghost use Rattle.semantic_tree.specs.Renamed.{swap, swapped_tree};
 ghost use Rattle.semantic_tree.specs.Tree.{Tree};
-ghost use Rattle.semantic_tree.specs.Views.{is};
 ghost use Rattle.semantic_tree.specs.declared.node.Node.{Node};
 ghost use Rattle.check_model.specs.DiagnosticsOf.{diagnostics_of};
 ghost use Rattle.check_model.specs.Rows.{rows_of};
@@ -15,7 +13,7 @@ ghost use Rattle.program_laws.specs.ReadMarks.{unmarked_tree};
 ghost use Rattle.swapped_checks.specs.RuleWords.{is_rule_word, KeepsRuleWords};
 ghost use Rattle.swapped_checks.specs.SwappedPrograms.{holds_within, is_other_string, keeps_prototype};
 ghost use Rattle.swapped_checks.specs.SwappedRows.{AreToldAgain};
-ghost use Rattle.swapped_checks.specs.SwappedSight.{HasPlainParts, IsRenamedSight, KeepsParameters};
+ghost use Rattle.swapped_checks.specs.SwappedSight.{HasPlainParts, IsRenamedSight, is_signature_list, KeepsParameters};
 
 /// Early errors only compare names. Take what the rules look at on leaving a node, and swap two names in it, neither of them one of
 /// the words of the rules: the node violates the same rules, in the same order, told at the same places. Each row is the same one,
@@ -35,7 +33,7 @@ pub fn swapped_names_leave_early_errors()
 pub fn one_rule_compares_names()
     ensures { (f : Name → Name) (s t : Sight) → KeepsRuleWords f → HasPlainParts s
         → IsRenamedSight f s t
-        → (is kind.FormalParameters s.node ≡ true → KeepsParameters f s.node)
+        → (is_signature_list s.node ≡ true → KeepsParameters f s.node)
         → AreToldAgain f (rows_of s) (rows_of t) }
 {}
 

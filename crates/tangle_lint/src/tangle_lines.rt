@@ -87,8 +87,8 @@ fn write_tangle<K: Sink>(
         (tangle_line scoping.now (tangle_seen name.now)) result }
 {
     let text = name_of(scoping, name.symbol);
-    make_line(line, name.symbol.index(), text, name.reasons.as_slice())?;
-    line.offer(out)
+    let made = make_line(line, name.symbol.index(), text, name.reasons.as_slice());
+    line.offer_made(made, out)
 }
 
 /// Writes the lines of the names.

@@ -1,2 +1,3 @@
+pub mod ProgramTrees
 pub mod Programs
 pub mod Rows

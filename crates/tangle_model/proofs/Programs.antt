@@ -1,209 +1,71 @@
 -- Trees of small programs.
-use Rattle.std.specs.Prelude.{ℕ, List, [], ◌∷◌, codes}
-use Rattle.semantic_syntax.specs.declared.source_type.Goal.{Goal}
+use Rattle.std.specs.Prelude.{[], ◌∷◌, codes}
 use Rattle.semantic_syntax.specs.declared.source_type.Goal.TheVariants as goal
 use Rattle.semantic_syntax.specs.declared.source_type.Lang.{Lang}
 use Rattle.semantic_syntax.specs.declared.source_type.Lang.TheVariants as lang
-use Rattle.semantic_kinds.specs.declared.kind.AstType.{AstType}
 use Rattle.semantic_kinds.specs.declared.kind.AstType.TheVariants as kind
-use Rattle.semantic_kinds.specs.declared.role.Role.{Role}
 use Rattle.semantic_kinds.specs.declared.role.Role.TheVariants as role
-use Rattle.semantic_kinds.specs.declared.mark.Mark.{Mark}
 use Rattle.semantic_kinds.specs.declared.mark.Mark.TheVariants as mark
-use Rattle.semantic_kinds.specs.MarkSets.{no_marks, set_of}
-use Rattle.semantic_tree.specs.Forest.{Forest, nothing, tree, join}
-use Rattle.semantic_tree.specs.Tree.{Tree, numbered_tree}
-
--- a node with its marks and what is below it, without a span; ids are given in the end
-abbrev side_by_side : List Forest → Forest
-side_by_side [] = nothing
-side_by_side (f ∷ fs) = join f (side_by_side fs)
-
-abbrev marked : List Mark → Role → AstType → List ℕ → List Forest → Forest
-marked marks r k text below = tree r k (record { start = 0; end = 0 }) text (set_of marks) (side_by_side below) 0 nothing
-
-abbrev node : Role → AstType → List ℕ → List Forest → Forest
-node r k text below = marked [] r k text below
-
-abbrev program : Goal → Lang → List Forest → Tree
-program g l below = numbered_tree (record {
-  source = [];
-  source_type = record { goal = g; lang = l };
-  comments = [];
-  root = record { kind = kind.Program; span = record { start = 0; end = 0 }; text = []; marks = no_marks; children = side_by_side below; node_id = 0 };
-})
+use Rattle.semantic_tree.specs.Tree.{Tree}
+use Rattle.tangle_model.proofs.ProgramTrees.{marked, node, program, binding, block, catch_clause, declarator, declared, expression, function, function_parts, in_parentheses, mention, named_expression, namespace, number, parameter, reference, statement, variable}
 
 -- `{ function f() {} } { function f() {} } f`
 abbrev pub two_blocks : Tree
 two_blocks =
     program goal.Script lang.Js
-    (node role.Body kind.BlockStatement []
-    (node role.Body kind.Function (codes "declaration")
-    (node role.Id kind.BindingIdentifier (codes "f") []
-    ∷ node role.Params kind.FormalParameters (codes "formal") []
-    ∷ node role.Body kind.FunctionBody [] []
-    ∷ [])
-    ∷ [])
-    ∷ node role.Body kind.BlockStatement []
-    (node role.Body kind.Function (codes "declaration")
-    (node role.Id kind.BindingIdentifier (codes "f") []
-    ∷ node role.Params kind.FormalParameters (codes "formal") []
-    ∷ node role.Body kind.FunctionBody [] []
-    ∷ [])
-    ∷ [])
-    ∷ node role.Body kind.ExpressionStatement []
-    (node role.Expression kind.IdentifierReference (codes "f") []
-    ∷ [])
+    (block role.Body (function role.Body (codes "f") [] [] ∷ [])
+    ∷ block role.Body (function role.Body (codes "f") [] [] ∷ [])
+    ∷ mention (codes "f")
     ∷ [])
 
 -- `{ function f() {} } f`
 abbrev pub one_block : Tree
-one_block =
-    program goal.Script lang.Js
-    (node role.Body kind.BlockStatement []
-    (node role.Body kind.Function (codes "declaration")
-    (node role.Id kind.BindingIdentifier (codes "f") []
-    ∷ node role.Params kind.FormalParameters (codes "formal") []
-    ∷ node role.Body kind.FunctionBody [] []
-    ∷ [])
-    ∷ [])
-    ∷ node role.Body kind.ExpressionStatement []
-    (node role.Expression kind.IdentifierReference (codes "f") []
-    ∷ [])
-    ∷ [])
+one_block = program goal.Script lang.Js (block role.Body (function role.Body (codes "f") [] [] ∷ []) ∷ mention (codes "f") ∷ [])
 
 -- `function g() { { function f() {} } } { function f() {} }`
 abbrev pub two_homes : Tree
 two_homes =
     program goal.Script lang.Js
-    (node role.Body kind.Function (codes "declaration")
-    (node role.Id kind.BindingIdentifier (codes "g") []
-    ∷ node role.Params kind.FormalParameters (codes "formal") []
-    ∷ node role.Body kind.FunctionBody []
-    (node role.Body kind.BlockStatement []
-    (node role.Body kind.Function (codes "declaration")
-    (node role.Id kind.BindingIdentifier (codes "f") []
-    ∷ node role.Params kind.FormalParameters (codes "formal") []
-    ∷ node role.Body kind.FunctionBody [] []
-    ∷ [])
-    ∷ [])
-    ∷ [])
-    ∷ [])
-    ∷ node role.Body kind.BlockStatement []
-    (node role.Body kind.Function (codes "declaration")
-    (node role.Id kind.BindingIdentifier (codes "f") []
-    ∷ node role.Params kind.FormalParameters (codes "formal") []
-    ∷ node role.Body kind.FunctionBody [] []
-    ∷ [])
-    ∷ [])
+    (function role.Body (codes "g") [] (block role.Body (function role.Body (codes "f") [] [] ∷ []) ∷ [])
+    ∷ block role.Body (function role.Body (codes "f") [] [] ∷ [])
     ∷ [])
 
 -- `"use strict"; { function f() {} } { function f() {} }`
 abbrev pub strict_blocks : Tree
 strict_blocks =
     program goal.Script lang.Js
-    (node role.Directives kind.Directive (codes "use strict")
-    (node role.Expression kind.StringLiteral (codes "use strict") []
-    ∷ [])
-    ∷ node role.Body kind.BlockStatement []
-    (node role.Body kind.Function (codes "declaration")
-    (node role.Id kind.BindingIdentifier (codes "f") []
-    ∷ node role.Params kind.FormalParameters (codes "formal") []
-    ∷ node role.Body kind.FunctionBody [] []
-    ∷ [])
-    ∷ [])
-    ∷ node role.Body kind.BlockStatement []
-    (node role.Body kind.Function (codes "declaration")
-    (node role.Id kind.BindingIdentifier (codes "f") []
-    ∷ node role.Params kind.FormalParameters (codes "formal") []
-    ∷ node role.Body kind.FunctionBody [] []
-    ∷ [])
-    ∷ [])
+    (node role.Directives kind.Directive (codes "use strict") (node role.Expression kind.StringLiteral (codes "use strict") [] ∷ [])
+    ∷ block role.Body (function role.Body (codes "f") [] [] ∷ [])
+    ∷ block role.Body (function role.Body (codes "f") [] [] ∷ [])
     ∷ [])
 
 -- `{ async function f() {} } { function* f() {} }`
 abbrev pub special_blocks : Tree
 special_blocks =
     program goal.Script lang.Js
-    (node role.Body kind.BlockStatement []
-    (marked (mark.Async ∷ []) role.Body kind.Function (codes "declaration")
-    (node role.Id kind.BindingIdentifier (codes "f") []
-    ∷ node role.Params kind.FormalParameters (codes "formal") []
-    ∷ node role.Body kind.FunctionBody [] []
-    ∷ [])
-    ∷ [])
-    ∷ node role.Body kind.BlockStatement []
-    (marked (mark.Generator ∷ []) role.Body kind.Function (codes "declaration")
-    (node role.Id kind.BindingIdentifier (codes "f") []
-    ∷ node role.Params kind.FormalParameters (codes "formal") []
-    ∷ node role.Body kind.FunctionBody [] []
-    ∷ [])
-    ∷ [])
+    (block role.Body (marked (mark.Async ∷ []) role.Body kind.Function (codes "declaration") (function_parts (codes "f") [] []) ∷ [])
+    ∷ block role.Body (marked (mark.Generator ∷ []) role.Body kind.Function (codes "declaration") (function_parts (codes "f") [] []) ∷ [])
     ∷ [])
 
 -- `var a; { function a() {} }`
 abbrev pub block_and_var : Tree
-block_and_var =
-    program goal.Script lang.Js
-    (node role.Body kind.VariableDeclaration (codes "var")
-    (node role.Declarators kind.VariableDeclarator []
-    (node role.Id kind.BindingIdentifier (codes "a") []
-    ∷ [])
-    ∷ [])
-    ∷ node role.Body kind.BlockStatement []
-    (node role.Body kind.Function (codes "declaration")
-    (node role.Id kind.BindingIdentifier (codes "a") []
-    ∷ node role.Params kind.FormalParameters (codes "formal") []
-    ∷ node role.Body kind.FunctionBody [] []
-    ∷ [])
-    ∷ [])
-    ∷ [])
+block_and_var = program goal.Script lang.Js (variable (codes "var") (codes "a") ∷ block role.Body (function role.Body (codes "a") [] [] ∷ []) ∷ [])
 
 -- `function f(a) { if (1) function a() {} }`
 abbrev pub if_and_parameter : Tree
 if_and_parameter =
     program goal.Script lang.Js
-    (node role.Body kind.Function (codes "declaration")
-    (node role.Id kind.BindingIdentifier (codes "f") []
-    ∷ node role.Params kind.FormalParameters (codes "formal")
-    (node role.Items kind.FormalParameter []
-    (node role.Pattern kind.BindingIdentifier (codes "a") []
-    ∷ [])
-    ∷ [])
-    ∷ node role.Body kind.FunctionBody []
-    (node role.Body kind.IfStatement []
-    (marked (mark.Decimal ∷ []) role.Test kind.NumericLiteral (codes "1") []
-    ∷ node role.Consequent kind.Function (codes "declaration")
-    (node role.Id kind.BindingIdentifier (codes "a") []
-    ∷ node role.Params kind.FormalParameters (codes "formal") []
-    ∷ node role.Body kind.FunctionBody [] []
-    ∷ [])
-    ∷ [])
-    ∷ [])
-    ∷ [])
+    (function role.Body (codes "f") (parameter (codes "a") ∷ [])
+    (node role.Body kind.IfStatement [] (number role.Test (codes "1") ∷ function role.Consequent (codes "a") [] [] ∷ []) ∷ [])
     ∷ [])
 
 -- `(function f() { { function f() {} } })`
 abbrev pub block_and_own_name : Tree
 block_and_own_name =
     program goal.Script lang.Js
-    (node role.Body kind.ExpressionStatement []
-    (node role.Expression kind.ParenthesizedExpression []
-    (node role.Expression kind.Function (codes "expression")
-    (node role.Id kind.BindingIdentifier (codes "f") []
-    ∷ node role.Params kind.FormalParameters (codes "formal") []
-    ∷ node role.Body kind.FunctionBody []
-    (node role.Body kind.BlockStatement []
-    (node role.Body kind.Function (codes "declaration")
-    (node role.Id kind.BindingIdentifier (codes "f") []
-    ∷ node role.Params kind.FormalParameters (codes "formal") []
-    ∷ node role.Body kind.FunctionBody [] []
-    ∷ [])
-    ∷ [])
-    ∷ [])
-    ∷ [])
-    ∷ [])
-    ∷ [])
+    (statement
+    (in_parentheses role.Expression
+    (named_expression role.Expression (codes "f") [] (block role.Body (function role.Body (codes "f") [] [] ∷ []) ∷ [])))
     ∷ [])
 
 -- `switch (0) { case 0: l: function a() {} } for (let a;;);`
@@ -211,27 +73,14 @@ abbrev pub case_and_let : Tree
 case_and_let =
     program goal.Script lang.Js
     (node role.Body kind.SwitchStatement []
-    (marked (mark.Decimal ∷ []) role.Discriminant kind.NumericLiteral (codes "0") []
+    (number role.Discriminant (codes "0")
     ∷ node role.Cases kind.SwitchCase []
-    (marked (mark.Decimal ∷ []) role.Test kind.NumericLiteral (codes "0") []
-    ∷ node role.Consequent kind.LabeledStatement []
-    (node role.Label kind.LabelIdentifier (codes "l") []
-    ∷ node role.Body kind.Function (codes "declaration")
-    (node role.Id kind.BindingIdentifier (codes "a") []
-    ∷ node role.Params kind.FormalParameters (codes "formal") []
-    ∷ node role.Body kind.FunctionBody [] []
-    ∷ [])
-    ∷ [])
+    (number role.Test (codes "0")
+    ∷ node role.Consequent kind.LabeledStatement [] (node role.Label kind.LabelIdentifier (codes "l") [] ∷ function role.Body (codes "a") [] [] ∷ [])
     ∷ [])
     ∷ [])
     ∷ node role.Body kind.ForStatement []
-    (node role.Init kind.VariableDeclaration (codes "let")
-    (node role.Declarators kind.VariableDeclarator []
-    (node role.Id kind.BindingIdentifier (codes "a") []
-    ∷ [])
-    ∷ [])
-    ∷ node role.Body kind.EmptyStatement [] []
-    ∷ [])
+    (declared role.Init (codes "let") (binding role.Id (codes "a") ∷ []) ∷ node role.Body kind.EmptyStatement [] [] ∷ [])
     ∷ [])
 
 -- `try {} catch ({ a }) { { function a() {} } }`
@@ -239,67 +88,31 @@ abbrev pub block_and_catch : Tree
 block_and_catch =
     program goal.Script lang.Js
     (node role.Body kind.TryStatement []
-    (node role.Block kind.BlockStatement [] []
-    ∷ node role.Handler kind.CatchClause []
-    (node role.Param kind.CatchParameter []
+    (block role.Block []
+    ∷ catch_clause role.Handler
     (node role.Pattern kind.ObjectPattern []
     (marked (mark.Shorthand ∷ []) role.Properties kind.BindingProperty []
-    (node role.Key kind.IdentifierName (codes "a") []
-    ∷ node role.Value kind.BindingIdentifier (codes "a") []
-    ∷ [])
-    ∷ [])
-    ∷ [])
-    ∷ node role.Body kind.BlockStatement []
-    (node role.Body kind.BlockStatement []
-    (node role.Body kind.Function (codes "declaration")
-    (node role.Id kind.BindingIdentifier (codes "a") []
-    ∷ node role.Params kind.FormalParameters (codes "formal") []
-    ∷ node role.Body kind.FunctionBody [] []
-    ∷ [])
-    ∷ [])
-    ∷ [])
-    ∷ [])
+    (node role.Key kind.IdentifierName (codes "a") [] ∷ binding role.Value (codes "a") ∷ [])
+    ∷ []))
+    (block role.Body (function role.Body (codes "a") [] [] ∷ []) ∷ [])
     ∷ [])
     ∷ [])
 
 -- `function f() {} function f() {}`
 abbrev pub top_functions : Tree
-top_functions =
-    program goal.Script lang.Js
-    (node role.Body kind.Function (codes "declaration")
-    (node role.Id kind.BindingIdentifier (codes "f") []
-    ∷ node role.Params kind.FormalParameters (codes "formal") []
-    ∷ node role.Body kind.FunctionBody [] []
-    ∷ [])
-    ∷ node role.Body kind.Function (codes "declaration")
-    (node role.Id kind.BindingIdentifier (codes "f") []
-    ∷ node role.Params kind.FormalParameters (codes "formal") []
-    ∷ node role.Body kind.FunctionBody [] []
-    ∷ [])
-    ∷ [])
+top_functions = program goal.Script lang.Js (function role.Body (codes "f") [] [] ∷ function role.Body (codes "f") [] [] ∷ [])
 
 -- `try {} catch (e) { for (var [e] of []); }`
 abbrev pub var_in_catch : Tree
 var_in_catch =
     program goal.Script lang.Js
     (node role.Body kind.TryStatement []
-    (node role.Block kind.BlockStatement [] []
-    ∷ node role.Handler kind.CatchClause []
-    (node role.Param kind.CatchParameter []
-    (node role.Pattern kind.BindingIdentifier (codes "e") []
-    ∷ [])
-    ∷ node role.Body kind.BlockStatement []
+    (block role.Block []
+    ∷ catch_clause role.Handler (binding role.Pattern (codes "e"))
     (node role.Body kind.ForOfStatement []
-    (node role.Left kind.VariableDeclaration (codes "var")
-    (node role.Declarators kind.VariableDeclarator []
-    (node role.Id kind.ArrayPattern []
-    (node role.Elements kind.BindingIdentifier (codes "e") []
-    ∷ [])
-    ∷ [])
-    ∷ [])
+    (declared role.Left (codes "var") (node role.Id kind.ArrayPattern [] (binding role.Elements (codes "e") ∷ []) ∷ [])
     ∷ node role.Right kind.ArrayExpression [] []
     ∷ node role.Body kind.EmptyStatement [] []
-    ∷ [])
     ∷ [])
     ∷ [])
     ∷ [])
@@ -309,87 +122,30 @@ var_in_catch =
 abbrev pub var_beside_catch : Tree
 var_beside_catch =
     program goal.Script lang.Js
-    (node role.Body kind.VariableDeclaration (codes "var")
-    (node role.Declarators kind.VariableDeclarator []
-    (node role.Id kind.BindingIdentifier (codes "e") []
-    ∷ [])
-    ∷ [])
+    (variable (codes "var") (codes "e")
     ∷ node role.Body kind.TryStatement []
-    (node role.Block kind.BlockStatement [] []
-    ∷ node role.Handler kind.CatchClause []
-    (node role.Param kind.CatchParameter []
-    (node role.Pattern kind.BindingIdentifier (codes "e") []
-    ∷ [])
-    ∷ node role.Body kind.BlockStatement []
-    (node role.Body kind.ExpressionStatement []
-    (node role.Expression kind.ParenthesizedExpression []
-    (node role.Expression kind.Function (codes "expression")
-    (node role.Params kind.FormalParameters (codes "formal") []
-    ∷ node role.Body kind.FunctionBody []
-    (node role.Body kind.VariableDeclaration (codes "var")
-    (node role.Declarators kind.VariableDeclarator []
-    (node role.Id kind.BindingIdentifier (codes "e") []
-    ∷ [])
-    ∷ [])
-    ∷ [])
-    ∷ [])
-    ∷ [])
-    ∷ [])
-    ∷ [])
-    ∷ [])
+    (block role.Block []
+    ∷ catch_clause role.Handler (binding role.Pattern (codes "e"))
+    (statement (in_parentheses role.Expression (expression role.Expression [] (variable (codes "var") (codes "e") ∷ []))) ∷ [])
     ∷ [])
     ∷ [])
 
 -- `function f() { var arguments; }`
 abbrev pub var_arguments : Tree
-var_arguments =
-    program goal.Script lang.Js
-    (node role.Body kind.Function (codes "declaration")
-    (node role.Id kind.BindingIdentifier (codes "f") []
-    ∷ node role.Params kind.FormalParameters (codes "formal") []
-    ∷ node role.Body kind.FunctionBody []
-    (node role.Body kind.VariableDeclaration (codes "var")
-    (node role.Declarators kind.VariableDeclarator []
-    (node role.Id kind.BindingIdentifier (codes "arguments") []
-    ∷ [])
-    ∷ [])
-    ∷ [])
-    ∷ [])
-    ∷ [])
+var_arguments = program goal.Script lang.Js (function role.Body (codes "f") [] (variable (codes "var") (codes "arguments") ∷ []) ∷ [])
 
 -- `function f() { return arguments; }`
 abbrev pub reads_arguments : Tree
 reads_arguments =
     program goal.Script lang.Js
-    (node role.Body kind.Function (codes "declaration")
-    (node role.Id kind.BindingIdentifier (codes "f") []
-    ∷ node role.Params kind.FormalParameters (codes "formal") []
-    ∷ node role.Body kind.FunctionBody []
-    (node role.Body kind.ReturnStatement []
-    (node role.Argument kind.IdentifierReference (codes "arguments") []
-    ∷ [])
-    ∷ [])
-    ∷ [])
-    ∷ [])
+    (function role.Body (codes "f") [] (node role.Body kind.ReturnStatement [] (reference role.Argument (codes "arguments") ∷ []) ∷ []) ∷ [])
 
 -- `var a, b; with ({}) a;`
 abbrev pub reference_in_with : Tree
 reference_in_with =
     program goal.Script lang.Js
-    (node role.Body kind.VariableDeclaration (codes "var")
-    (node role.Declarators kind.VariableDeclarator []
-    (node role.Id kind.BindingIdentifier (codes "a") []
-    ∷ [])
-    ∷ node role.Declarators kind.VariableDeclarator []
-    (node role.Id kind.BindingIdentifier (codes "b") []
-    ∷ [])
-    ∷ [])
-    ∷ node role.Body kind.WithStatement []
-    (node role.Object kind.ObjectExpression [] []
-    ∷ node role.Body kind.ExpressionStatement []
-    (node role.Expression kind.IdentifierReference (codes "a") []
-    ∷ [])
-    ∷ [])
+    (node role.Body kind.VariableDeclaration (codes "var") (declarator (codes "a") ∷ declarator (codes "b") ∷ [])
+    ∷ node role.Body kind.WithStatement [] (node role.Object kind.ObjectExpression [] [] ∷ mention (codes "a") ∷ [])
     ∷ [])
 
 -- `with ({}) { var a = 1; }`
@@ -398,14 +154,7 @@ var_in_with =
     program goal.Script lang.Js
     (node role.Body kind.WithStatement []
     (node role.Object kind.ObjectExpression [] []
-    ∷ node role.Body kind.BlockStatement []
-    (node role.Body kind.VariableDeclaration (codes "var")
-    (node role.Declarators kind.VariableDeclarator []
-    (node role.Id kind.BindingIdentifier (codes "a") []
-    ∷ marked (mark.Decimal ∷ []) role.Init kind.NumericLiteral (codes "1") []
-    ∷ [])
-    ∷ [])
-    ∷ [])
+    ∷ block role.Body (declared role.Body (codes "var") (binding role.Id (codes "a") ∷ number role.Init (codes "1") ∷ []) ∷ [])
     ∷ [])
     ∷ [])
 
@@ -413,122 +162,47 @@ var_in_with =
 abbrev pub with_eval : Tree
 with_eval =
     program goal.Script lang.Js
-    (node role.Body kind.Function (codes "declaration")
-    (node role.Id kind.BindingIdentifier (codes "f") []
-    ∷ node role.Params kind.FormalParameters (codes "formal")
-    (node role.Items kind.FormalParameter []
-    (node role.Pattern kind.BindingIdentifier (codes "a") []
+    (function role.Body (codes "f") (parameter (codes "a") ∷ [])
+    (statement (node role.Expression kind.CallExpression [] (reference role.Callee (codes "eval") ∷ node role.Arguments kind.StringLiteral [] [] ∷ []))
     ∷ [])
-    ∷ [])
-    ∷ node role.Body kind.FunctionBody []
-    (node role.Body kind.ExpressionStatement []
-    (node role.Expression kind.CallExpression []
-    (node role.Callee kind.IdentifierReference (codes "eval") []
-    ∷ node role.Arguments kind.StringLiteral [] []
-    ∷ [])
-    ∷ [])
-    ∷ [])
-    ∷ [])
-    ∷ node role.Body kind.Function (codes "declaration")
-    (node role.Id kind.BindingIdentifier (codes "g") []
-    ∷ node role.Params kind.FormalParameters (codes "formal")
-    (node role.Items kind.FormalParameter []
-    (node role.Pattern kind.BindingIdentifier (codes "b") []
-    ∷ [])
-    ∷ [])
-    ∷ node role.Body kind.FunctionBody [] []
-    ∷ [])
+    ∷ function role.Body (codes "g") (parameter (codes "b") ∷ []) []
     ∷ [])
 
 -- `namespace N { export type T = 1; } let x: N.T; type U = T;`
 abbrev pub free_type : Tree
 free_type =
     program goal.Script lang.Ts
-    (node role.Body kind.TSNamespaceDeclaration []
-    (node role.Id kind.BindingIdentifier (codes "N") []
-    ∷ node role.Body kind.TSModuleBlock []
+    (namespace role.Body (codes "N")
     (node role.Body kind.ExportDeclaration []
     (node role.Declaration kind.TSTypeAliasDeclaration []
-    (node role.Id kind.BindingIdentifier (codes "T") []
-    ∷ node role.ValueType kind.TSLiteralType []
-    (marked (mark.Decimal ∷ []) role.Literal kind.NumericLiteral (codes "1") []
+    (binding role.Id (codes "T") ∷ node role.ValueType kind.TSLiteralType [] (number role.Literal (codes "1") ∷ []) ∷ [])
     ∷ [])
     ∷ [])
-    ∷ [])
-    ∷ [])
-    ∷ [])
-    ∷ node role.Body kind.VariableDeclaration (codes "let")
-    (node role.Declarators kind.VariableDeclarator []
-    (node role.Id kind.BindingIdentifier (codes "x") []
+    ∷ declared role.Body (codes "let")
+    (binding role.Id (codes "x")
     ∷ node role.Annotation kind.TSTypeAnnotation []
     (node role.Element kind.TSTypeReference []
-    (node role.Name kind.TSQualifiedName []
-    (node role.Left kind.IdentifierReference (codes "N") []
-    ∷ node role.Right kind.IdentifierName (codes "T") []
-    ∷ [])
-    ∷ [])
-    ∷ [])
+    (node role.Name kind.TSQualifiedName [] (reference role.Left (codes "N") ∷ node role.Right kind.IdentifierName (codes "T") [] ∷ []) ∷ [])
     ∷ [])
     ∷ [])
     ∷ node role.Body kind.TSTypeAliasDeclaration []
-    (node role.Id kind.BindingIdentifier (codes "U") []
-    ∷ node role.ValueType kind.TSTypeReference []
-    (node role.Name kind.IdentifierReference (codes "T") []
-    ∷ [])
-    ∷ [])
+    (binding role.Id (codes "U") ∷ node role.ValueType kind.TSTypeReference [] (reference role.Name (codes "T") ∷ []) ∷ [])
     ∷ [])
 
 -- `{ let a; } a;`
 abbrev pub free_in_javascript : Tree
-free_in_javascript =
-    program goal.Script lang.Js
-    (node role.Body kind.BlockStatement []
-    (node role.Body kind.VariableDeclaration (codes "let")
-    (node role.Declarators kind.VariableDeclarator []
-    (node role.Id kind.BindingIdentifier (codes "a") []
-    ∷ [])
-    ∷ [])
-    ∷ [])
-    ∷ node role.Body kind.ExpressionStatement []
-    (node role.Expression kind.IdentifierReference (codes "a") []
-    ∷ [])
-    ∷ [])
+free_in_javascript = program goal.Script lang.Js (block role.Body (variable (codes "let") (codes "a") ∷ []) ∷ mention (codes "a") ∷ [])
 
 -- `namespace N { export let a = 1; } namespace N { a; } namespace M { let b; }`
 abbrev pub merged_namespaces : Tree
 merged_namespaces =
     program goal.Script lang.Ts
-    (node role.Body kind.TSNamespaceDeclaration []
-    (node role.Id kind.BindingIdentifier (codes "N") []
-    ∷ node role.Body kind.TSModuleBlock []
+    (namespace role.Body (codes "N")
     (node role.Body kind.ExportDeclaration []
-    (node role.Declaration kind.VariableDeclaration (codes "let")
-    (node role.Declarators kind.VariableDeclarator []
-    (node role.Id kind.BindingIdentifier (codes "a") []
-    ∷ marked (mark.Decimal ∷ []) role.Init kind.NumericLiteral (codes "1") []
+    (declared role.Declaration (codes "let") (binding role.Id (codes "a") ∷ number role.Init (codes "1") ∷ []) ∷ [])
     ∷ [])
-    ∷ [])
-    ∷ [])
-    ∷ [])
-    ∷ [])
-    ∷ node role.Body kind.TSNamespaceDeclaration []
-    (node role.Id kind.BindingIdentifier (codes "N") []
-    ∷ node role.Body kind.TSModuleBlock []
-    (node role.Body kind.ExpressionStatement []
-    (node role.Expression kind.IdentifierReference (codes "a") []
-    ∷ [])
-    ∷ [])
-    ∷ [])
-    ∷ node role.Body kind.TSNamespaceDeclaration []
-    (node role.Id kind.BindingIdentifier (codes "M") []
-    ∷ node role.Body kind.TSModuleBlock []
-    (node role.Body kind.VariableDeclaration (codes "let")
-    (node role.Declarators kind.VariableDeclarator []
-    (node role.Id kind.BindingIdentifier (codes "b") []
-    ∷ [])
-    ∷ [])
-    ∷ [])
-    ∷ [])
+    ∷ namespace role.Body (codes "N") (mention (codes "a") ∷ [])
+    ∷ namespace role.Body (codes "M") (variable (codes "let") (codes "b") ∷ [])
     ∷ [])
 
 -- `enum E { A } enum E { B }`
@@ -536,20 +210,12 @@ abbrev pub merged_enums : Tree
 merged_enums =
     program goal.Script lang.Ts
     (node role.Body kind.TSEnumDeclaration []
-    (node role.Id kind.BindingIdentifier (codes "E") []
-    ∷ node role.Body kind.TSEnumBody []
-    (node role.Members kind.TSEnumMember []
-    (node role.Id kind.IdentifierName (codes "A") []
-    ∷ [])
-    ∷ [])
+    (binding role.Id (codes "E")
+    ∷ node role.Body kind.TSEnumBody [] (node role.Members kind.TSEnumMember [] (node role.Id kind.IdentifierName (codes "A") [] ∷ []) ∷ [])
     ∷ [])
     ∷ node role.Body kind.TSEnumDeclaration []
-    (node role.Id kind.BindingIdentifier (codes "E") []
-    ∷ node role.Body kind.TSEnumBody []
-    (node role.Members kind.TSEnumMember []
-    (node role.Id kind.IdentifierName (codes "B") []
-    ∷ [])
-    ∷ [])
+    (binding role.Id (codes "E")
+    ∷ node role.Body kind.TSEnumBody [] (node role.Members kind.TSEnumMember [] (node role.Id kind.IdentifierName (codes "B") [] ∷ []) ∷ [])
     ∷ [])
     ∷ [])
 
@@ -558,70 +224,39 @@ abbrev pub inner_namespace : Tree
 inner_namespace =
     program goal.Module lang.Ts
     (node role.Body kind.ExportNamedDeclaration [] []
-    ∷ node role.Body kind.ExpressionStatement []
+    ∷ statement
     (node role.Expression kind.StaticMemberExpression []
-    (node role.Object kind.IdentifierReference (codes "b") []
-    ∷ node role.Property kind.IdentifierName (codes "b") []
-    ∷ [])
-    ∷ [])
+    (reference role.Object (codes "b") ∷ node role.Property kind.IdentifierName (codes "b") [] ∷ []))
     ∷ node role.Body kind.ExportDeclaration []
     (node role.Declaration kind.TSNamespaceDeclaration []
-    (node role.Id kind.BindingIdentifier (codes "b") []
-    ∷ node role.Body kind.TSNamespaceDeclaration []
-    (node role.Id kind.BindingIdentifier (codes "N") []
-    ∷ node role.Body kind.TSModuleBlock []
-    (node role.Body kind.TSNamespaceDeclaration []
-    (node role.Id kind.BindingIdentifier (codes "a") []
-    ∷ node role.Body kind.TSModuleBlock []
+    (binding role.Id (codes "b")
+    ∷ namespace role.Body (codes "N")
+    (namespace role.Body (codes "a")
     (node role.Body kind.ExportDeclaration []
-    (node role.Declaration kind.TSNamespaceDeclaration []
-    (node role.Id kind.BindingIdentifier (codes "b") []
-    ∷ node role.Body kind.TSModuleBlock []
+    (namespace role.Declaration (codes "b")
     (node role.Body kind.TSTypeAliasDeclaration []
-    (node role.Id kind.BindingIdentifier (codes "v1") []
+    (binding role.Id (codes "v1")
     ∷ node role.ValueType kind.TSArrayType []
     (node role.Element kind.TSTypeReference []
-    (node role.Name kind.TSQualifiedName []
-    (node role.Left kind.IdentifierReference (codes "b") []
-    ∷ node role.Right kind.IdentifierName (codes "N") []
+    (node role.Name kind.TSQualifiedName [] (reference role.Left (codes "b") ∷ node role.Right kind.IdentifierName (codes "N") [] ∷ []) ∷ [])
     ∷ [])
     ∷ [])
+    ∷ declared role.Body (codes "const") (binding role.Id (codes "a") ∷ number role.Init (codes "1") ∷ [])
     ∷ [])
     ∷ [])
-    ∷ node role.Body kind.VariableDeclaration (codes "const")
-    (node role.Declarators kind.VariableDeclarator []
-    (node role.Id kind.BindingIdentifier (codes "a") []
-    ∷ marked (mark.Decimal ∷ []) role.Init kind.NumericLiteral (codes "1") []
+    ∷ mention (codes "a")
     ∷ [])
-    ∷ [])
-    ∷ [])
-    ∷ [])
-    ∷ [])
-    ∷ node role.Body kind.ExpressionStatement []
-    (node role.Expression kind.IdentifierReference (codes "a") []
-    ∷ [])
-    ∷ [])
-    ∷ [])
-    ∷ node role.Body kind.ExpressionStatement []
-    (node role.Expression kind.ParenthesizedExpression []
+    ∷ statement
+    (in_parentheses role.Expression
     (node role.Expression kind.ObjectExpression []
     (marked (mark.Shorthand ∷ []) role.Properties kind.ObjectProperty (codes "init")
-    (node role.Key kind.IdentifierName (codes "N") []
-    ∷ node role.Value kind.IdentifierReference (codes "N") []
-    ∷ [])
-    ∷ [])
-    ∷ [])
-    ∷ [])
-    ∷ [])
+    (node role.Key kind.IdentifierName (codes "N") [] ∷ reference role.Value (codes "N") ∷ [])
+    ∷ [])))
     ∷ [])
     ∷ [])
     ∷ [])
     ∷ node role.Body kind.ExportDeclaration []
-    (node role.Declaration kind.TSInterfaceDeclaration []
-    (node role.Id kind.BindingIdentifier (codes "b") []
-    ∷ node role.Body kind.TSInterfaceBody [] []
-    ∷ [])
-    ∷ [])
+    (node role.Declaration kind.TSInterfaceDeclaration [] (binding role.Id (codes "b") ∷ node role.Body kind.TSInterfaceBody [] [] ∷ []) ∷ [])
     ∷ [])
 
 -- `namespace M { namespace N {} } interface N {}`; in the language that is given
@@ -647,47 +282,26 @@ namespace_in_another l =
 abbrev pub lone_namespace : Tree
 lone_namespace =
     program goal.Script lang.Ts
-    (node role.Body kind.TSNamespaceDeclaration []
-    (node role.Id kind.BindingIdentifier (codes "N") []
-    ∷ node role.Body kind.TSModuleBlock []
+    (namespace role.Body (codes "N")
     (node role.Body kind.ExportDeclaration []
-    (node role.Declaration kind.VariableDeclaration (codes "let")
-    (node role.Declarators kind.VariableDeclarator []
-    (node role.Id kind.BindingIdentifier (codes "a") []
-    ∷ marked (mark.Decimal ∷ []) role.Init kind.NumericLiteral (codes "1") []
+    (declared role.Declaration (codes "let") (binding role.Id (codes "a") ∷ number role.Init (codes "1") ∷ []) ∷ [])
     ∷ [])
-    ∷ [])
-    ∷ [])
-    ∷ [])
-    ∷ [])
-    ∷ node role.Body kind.ExpressionStatement []
+    ∷ statement
     (node role.Expression kind.StaticMemberExpression []
-    (node role.Object kind.IdentifierReference (codes "N") []
-    ∷ node role.Property kind.IdentifierName (codes "a") []
-    ∷ [])
-    ∷ [])
+    (reference role.Object (codes "N") ∷ node role.Property kind.IdentifierName (codes "a") [] ∷ []))
     ∷ [])
 
 -- `namespace M { import N = A.x; } interface N {}`
 abbrev pub inner_alias : Tree
 inner_alias =
     program goal.Script lang.Ts
-    (node role.Body kind.TSNamespaceDeclaration []
-    (node role.Id kind.BindingIdentifier (codes "M") []
-    ∷ node role.Body kind.TSModuleBlock []
+    (namespace role.Body (codes "M")
     (node role.Body kind.TSImportEqualsDeclaration []
-    (node role.Id kind.BindingIdentifier (codes "N") []
-    ∷ node role.Reference kind.TSQualifiedName []
-    (node role.Left kind.IdentifierReference (codes "A") []
-    ∷ node role.Right kind.IdentifierName (codes "x") []
+    (binding role.Id (codes "N")
+    ∷ node role.Reference kind.TSQualifiedName [] (reference role.Left (codes "A") ∷ node role.Right kind.IdentifierName (codes "x") [] ∷ [])
     ∷ [])
     ∷ [])
-    ∷ [])
-    ∷ [])
-    ∷ node role.Body kind.TSInterfaceDeclaration []
-    (node role.Id kind.BindingIdentifier (codes "N") []
-    ∷ node role.Body kind.TSInterfaceBody [] []
-    ∷ [])
+    ∷ node role.Body kind.TSInterfaceDeclaration [] (binding role.Id (codes "N") ∷ node role.Body kind.TSInterfaceBody [] [] ∷ [])
     ∷ [])
 
 -- `import N = A.x; namespace M { interface N {} }`
@@ -695,19 +309,9 @@ abbrev pub outer_alias : Tree
 outer_alias =
     program goal.Script lang.Ts
     (node role.Body kind.TSImportEqualsDeclaration []
-    (node role.Id kind.BindingIdentifier (codes "N") []
-    ∷ node role.Reference kind.TSQualifiedName []
-    (node role.Left kind.IdentifierReference (codes "A") []
-    ∷ node role.Right kind.IdentifierName (codes "x") []
+    (binding role.Id (codes "N")
+    ∷ node role.Reference kind.TSQualifiedName [] (reference role.Left (codes "A") ∷ node role.Right kind.IdentifierName (codes "x") [] ∷ [])
     ∷ [])
-    ∷ [])
-    ∷ node role.Body kind.TSNamespaceDeclaration []
-    (node role.Id kind.BindingIdentifier (codes "M") []
-    ∷ node role.Body kind.TSModuleBlock []
-    (node role.Body kind.TSInterfaceDeclaration []
-    (node role.Id kind.BindingIdentifier (codes "N") []
-    ∷ node role.Body kind.TSInterfaceBody [] []
-    ∷ [])
-    ∷ [])
-    ∷ [])
+    ∷ namespace role.Body (codes "M")
+    (node role.Body kind.TSInterfaceDeclaration [] (binding role.Id (codes "N") ∷ node role.Body kind.TSInterfaceBody [] [] ∷ []) ∷ [])
     ∷ [])

@@ -24,7 +24,7 @@ use Rattle.tools.specs.declared.tool.Tool.TheVariants.{Report, Renamer, Mangler,
 
 -- what the tool has done at a status of its own
 abbrev pub Means : Tool → SourceCall → SinkCall → SinkCall → List (String Global) → ToolStatus → Type 0
-Means Report source out errs words (ran.Report status) = report_meaning.Means source out errs words status
+Means Report source out errs words (ran.Finding status) = report_meaning.Means source out errs words status
 Means Renamer source out errs words (ran.Rename status) = rename_meaning.Means source out errs words status
 Means Mangler source out errs words (ran.Mangle status) = mangle_meaning.Means source out errs words status
 Means NameLint source out errs words (ran.Finding status) = FindingMeans (AreNames words) lint_telling.usage_line (lint_meaning.Answers words) source out errs status

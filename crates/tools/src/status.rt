@@ -6,13 +6,10 @@ ghost use Rattle.tools.specs.Ends.{end_of};
 use mangler_program::MangleStatus;
 use program_ends::{FindingStatus, Status, Stop};
 use renamer::RenameStatus;
-use report::ReportStatus;
 
 /// How a tool ends, by its own status.
 #[derive(Clone, Copy, Debug, PartialEq, Eq)]
 pub enum ToolStatus {
-    /// The report's.
-    Report(ReportStatus),
     /// The renamer's.
     Rename(RenameStatus),
     /// The mangler's.
@@ -27,7 +24,6 @@ impl ToolStatus {
         ensures { result ≡ code_of (end_of self) }
     {
         match self {
-            ToolStatus::Report(status) => status.code(),
             ToolStatus::Rename(status) => status.code(),
             ToolStatus::Mangle(status) => status.code(),
             ToolStatus::Finding(status) => status.code(),
@@ -46,7 +42,6 @@ impl Status for ToolStatus {
 
     fn is_answer(self) -> bool {
         match self {
-            ToolStatus::Report(status) => status.is_answer(),
             ToolStatus::Rename(status) => status.is_answer(),
             ToolStatus::Mangle(status) => status.is_answer(),
             ToolStatus::Finding(status) => status.is_answer(),

@@ -95,7 +95,7 @@ impl Tool {
             (sink_call E.held E.faults errs.old errs.new) words.now result }
     {
         match self {
-            Tool::Report => ToolStatus::Report(run(alloc, words, source, out, errs)),
+            Tool::Report => ToolStatus::Finding(run(alloc, words, source, out, errs)),
             Tool::Renamer => ToolStatus::Rename(run_rename(alloc, words, source, out, errs)),
             Tool::Mangler => ToolStatus::Mangle(run_mangle(alloc, words, source, out, errs)),
             Tool::NameLint => ToolStatus::Finding(run_names(alloc, words, source, out, errs)),

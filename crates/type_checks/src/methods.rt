@@ -116,22 +116,6 @@ fn tell_accessor(
     tell(accessor_without_body(alloc, key.span()), out)
 }
 
-/// Tells of what a method may not have or be without a body.
-#[tactic(auto, using(check_context::proofs::Telling::telling))]
-fn tell_bodiless(
-    alloc: Global,
-    kind: AstKind<'_>,
-    value: AstKind<'_>,
-    ctx: &CheckContext<'_, '_>,
-    out: &mut Diagnostics,
-) -> Result<(), AllocError>
-    ensures { Tells result (rows.bodiless_rows
-        (sight kind.entry.node.now ctx.now) value.entry.node.now) out.old out.new }
-{
-    tell_constructor(alloc, kind, value, out)?;
-    tell_accessor(alloc, kind, ctx, out)
-}
-
 /// A constructor without body has no parameter properties (`TS(2369)`), and an accessor that is neither abstract nor
 /// ambient has a body (TypeScript 1005).
 #[tactic(auto, using(check_context::proofs::Telling::telling))]
@@ -147,7 +131,8 @@ pub fn check_method_definition<'a>(
 {
     match kind.child(Role::Value) {
         Some(value) if reads(value, "ts-empty-body") => {
-            tell_bodiless(alloc, kind, value, ctx, out)
+            tell_constructor(alloc, kind, value, out)?;
+            tell_accessor(alloc, kind, ctx, out)
         }
         _ => Ok(()),
     }

@@ -1,14 +1,13 @@
 //! Early errors of the parameters of signatures.
-ghost use Rattle.std.specs.Prelude.{◌≡◌, ◌∷◌, ◌++◌, ◌&&◌, ℕ, List, [], codes, length, nat_lt, IfOk, OnOk};
+ghost use Rattle.std.specs.Prelude.{◌≡◌, ◌&&◌, [], codes, length, nat_lt};
 ghost use Rattle.semantic_kinds.specs.declared.role.Role.TheVariants as roles;
 ghost use Rattle.semantic_tree.specs.BoundNames.{bound_names};
 ghost use Rattle.semantic_tree.specs.Views.{all_in, has_text};
-ghost use Rattle.semantic_tree.specs.declared.node.Node.{Node};
 ghost use Rattle.check_model.specs.Methods as rows;
 ghost use Rattle.check_model.specs.Search.{each_after};
 ghost use Rattle.check_context.specs.Handed.{sight};
 ghost use Rattle.check_context.specs.Tells.{Tells};
-ghost use Rattle.type_checks.specs.Repeats.{last_span, rows_after, HasLast};
+ghost use Rattle.type_checks.specs.Repeats.{rows_after, HasLast};
 
 use check_context::{CheckContext, tell};
 use indexmap::IndexMap;
@@ -26,22 +25,6 @@ fn has_two_items(kind: AstKind<'_>) -> bool
 {
     let mut left = kind.children(Role::Items);
     left.next().is_some() && left.next().is_some()
-}
-
-/// Notes where a name stands, and gives where it stood before that.
-fn note<'a>(
-    seen: &mut IndexMap<&'a str, Span>,
-    name: AstKind<'a>,
-) -> Result<Option<Span>, AllocError>
-    ensures before { IfOk result
-        (λ before. (earlier : List Node) → HasLast earlier seen.old
-        → before ≡ last_span earlier name.entry.node.now) }
-    ensures noted { OnOk result
-        ((earlier : List Node) → HasLast earlier seen.old
-        → HasLast (earlier ++ name.entry.node.now ∷ []) seen.new) }
-{
-    let before = seen.insert(name.node().text.as_str(), name.span())?;
-    Ok(before)
 }
 
 /// Tells of a name that stood elsewhere before.
@@ -77,7 +60,7 @@ fn tell_each_repeated<'a>(
 {
     let names = identifiers_by_role(alloc, kind)?;
     for name in names.iter() {
-        let before = note(seen, name)?;
+        let before = seen.insert(name.node().text.as_str(), name.span())?;
         tell_repeated(alloc, before, name, out)?;
     }
     Ok(())

@@ -1,19 +1,16 @@
 -- What each step of the walk does, and the whole walk.
-use Rattle.std.specs.Prelude.{ℕ, List, [], ◌∷◌, map}
+use Rattle.std.specs.Prelude.{List, [], ◌∷◌}
 use Rattle.semantic_syntax.specs.Writing.{bindings_taken_over}
 use Rattle.semantic_tree.specs.Tree.{Tree}
-use Rattle.semantic_model.specs.Place.{OpenScope}
 use Rattle.semantic_model.specs.Declaration.{How, plain, hoisted, moved, caught, Declaration, stands_in}
 use Rattle.semantic_model.specs.Step.{Step, entering, opening, header_ending, closing, leaving, steps}
 use Rattle.semantic_model.specs.Event.{Event, declares, takes_over, ends_header, events_of, written_declarations}
+use Rattle.semantic_model.specs.TablesOf.{numbers}
 use Rattle.walk_model.specs.WalkState.{WalkState, nothing_made}
 use Rattle.walk_model.specs.Declares.{declare, declare_anew}
 use Rattle.walk_model.specs.Hoists.{hoist, declare_and_move}
 use Rattle.walk_model.specs.Settles.{end_header, settle_rest}
 use Rattle.walk_model.specs.Opens.{note_eval, note_reference, open_scope, close_scope}
-
-abbrev pub numbers : List OpenScope → List ℕ
-numbers scopes = map (λ s. s.number) scopes
 
 abbrev pub declare_by : How → WalkState → Declaration → WalkState
 declare_by plain w d = declare w d.route.target.number d.naming

@@ -50,14 +50,21 @@ function errorsOf(program, file) {
   }
 }
 
+// What else it says of types that are circular, have too few arguments or too many, or don't fit.
+const OF_TYPES = new Set([2312, 2313, 2314, 2315, 2344, 2355, 2359, 2365, 2420, 2456, 2488, 2495, 2502, 2506, 2536, 2538, 2558, 2862, 4109, 7022, 7023, 7024, 18050]);
+
+// Where it tells that a name isn't found, or only as something else.
+const NOWHERE = new Set([2304, 2503, 2552, 2693, 2702, 2709, 2713, 2749]);
+
 // For each identifier, by where it begins, where the declarations begin that it is tied to, but for those at which an error is told: they
-// mean nothing there. null where the module has errors of another kind than that of names.
-function tiesByChecker(source) {
+// mean nothing there. null where the module has errors of another kind than that of names; with `wide` those of types are put up with, and it
+// tells which identifiers it doesn't find as well, with how long what it points at is.
+function tiesByChecker(source, { wide = false } = {}) {
   const file = ts.createSourceFile(FILE, source, OPTIONS.target, true);
   const program = ts.createProgram([FILE], OPTIONS, hostOf(file));
   const errors = errorsOf(program, file);
-  if (errors === null || errors.some(({ code }) => !OF_NAMES.has(code) && !OF_VALUES.has(code))) {
-    return null;
+  if (errors === null || errors.some(({ code }) => !OF_NAMES.has(code) && !OF_VALUES.has(code) && !(wide && OF_TYPES.has(code)))) {
+    return wide ? { ties: null } : null;
   }
   const checker = program.getTypeChecker();
   const faulty = new Set(errors.map(({ start }) => start));
@@ -69,7 +76,7 @@ function tiesByChecker(source) {
     ts.forEachChild(node, visit);
   };
   visit(file);
-  return ties;
+  return wide ? { ties, unknown: new Map(errors.filter(({ code }) => NOWHERE.has(code)).map(({ start, length }) => [start, length])) } : ties;
 }
 
 module.exports = { tiesByChecker };

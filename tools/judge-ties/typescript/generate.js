@@ -1,5 +1,6 @@
 'use strict';
-// Modules of TypeScript of a few names: namespaces, enums and blocks that share names, qualified names, imports of them, and exports.
+// Modules of TypeScript of a few names: namespaces, enums and blocks that share names, qualified names, imports of them, and exports; and,
+// where they are to be wide, type parameters, `infer`, keys of mapped types, signatures, `declare` and catch names.
 
 const { seeded } = require('../random');
 
@@ -7,7 +8,7 @@ const NAMES = ['a', 'b', 'N', 'M'];
 const DEEPEST = 3;
 
 // The parts of a module; each takes where it stands and gives text. A place has `depth`, and where it is: `top`, `namespace` or `block`.
-function writer(below) {
+function writer(below, wide) {
   let numbered = 0;
   const one = (list) => list[below(list.length)];
   const fresh = () => `v${(numbered += 1)}`;
@@ -42,6 +43,22 @@ function writer(below) {
     (place) => `${exported(place)}class ${name()} {}`,
     (place) => `${exported(place)}function ${name()}() { ${one(uses)()} }`,
   ];
+  const widely = [
+    () => `type ${name()}<${name()}> = ${name()} extends [infer ${name()}, ${name()}] ? ${name()} : ${name()};`,
+    () => `function ${name()}<${name()} extends typeof ${name()}>(${name()}: ${name()}, ${fresh()} = ${name()}): typeof ${name()} { let ${fresh()}: ${name()}; ${one(uses)()} }`,
+    () => `type ${fresh()} = { [${name()} in ${name()} as ${name()}]: ${name()} };`,
+    () => `let ${fresh()}: { [${name()}: string]: typeof ${name()}; ${fresh()}<${name()}>(${name()}: ${name()}): ${name()}; };`,
+    () => `let ${fresh()}: <${name()}>(${name()}: ${name()}) => typeof ${name()};`,
+    (place) => `${exported(place)}class ${name()}<${name()}> { ${fresh()}: ${name()}; ${fresh()}(${name()}: ${name()}) { ${one(uses)()} } }`,
+    () => `let ${fresh()} = class ${name()}<${name()}> { ${fresh()}: ${name()} = ${name()}; };`,
+    () => `let ${fresh()} = function ${name()}(${name()} = ${name()}) { ${one(uses)()} };`,
+    (place) => `${exported(place)}interface ${name()}<${name()}> { ${fresh()}: ${name()} }`,
+    () => `try { ${one(uses)()} } catch (${name()}) { ${one(uses)()} }`,
+    () => `for (const ${name()} of [${name()}]) ${name()};`,
+    () => `{ var ${name()} = 1; ${one(uses)()} }`,
+    (place) => (place.where === 'block' ? one(uses)() : `declare namespace ${name()} { const ${name()}: 1; type ${name()} = ${name()}; }`),
+    (place) => (place.where === 'top' ? `declare global { interface ${name()} {} const ${name()}: ${name()}; }` : one(uses)()),
+  ];
   const blocks = [
     (place) => `${exported(place)}namespace ${below(4) === 0 ? `${name()}.${name()}` : name()} { ${list(inside(place, 'namespace'), 3)} }`,
     (place) => `${exported(place)}${below(4) === 0 ? 'const ' : ''}enum ${name()} { ${members()} }`,
@@ -56,7 +73,7 @@ function writer(below) {
   // Namespaces stand at the top and in namespaces alone, lists of exports at the top.
   function statement(place) {
     const isOuter = place.where !== 'block' && place.depth < DEEPEST;
-    switch (below(8)) {
+    switch (below(wide ? 11 : 8)) {
       case 0:
       case 1:
         return isOuter ? one(blocks)(place) : one(uses)();
@@ -69,6 +86,10 @@ function writer(below) {
       case 5:
       case 6:
         return one(declarations)(place);
+      case 8:
+      case 9:
+      case 10:
+        return one(widely)(place);
       default:
         return one(uses)();
     }
@@ -78,6 +99,6 @@ function writer(below) {
 }
 
 // The module of a seed.
-const typedModule = (seed) => writer(seeded(seed))();
+const typedModule = (seed, { wide = false } = {}) => writer(seeded(seed), wide)();
 
 module.exports = { typedModule };

@@ -63,37 +63,37 @@ pub const UNREAD: &[Unread] = &[
     },
     Unread {
         words: &["--make", "3"],
-        status: ReportStatus::Clean,
+        status: ReportStatus::Done,
         out: "made nodes 43 scopes 4 symbols 9 references 9 free 3\n",
     },
     Unread {
         words: &["--make", "5"],
-        status: ReportStatus::Clean,
+        status: ReportStatus::Done,
         out: "made nodes 71 scopes 6 symbols 15 references 15 free 5\n",
     },
     Unread {
         words: &["--make", "5", "--make", "3"],
-        status: ReportStatus::Clean,
+        status: ReportStatus::Done,
         out: "made nodes 43 scopes 4 symbols 9 references 9 free 3\n",
     },
     Unread {
         words: &["--nodes", "--make", "3", "--classes", "--stats"],
-        status: ReportStatus::Clean,
+        status: ReportStatus::Done,
         out: "made nodes 43 scopes 4 symbols 9 references 9 free 3\n",
     },
     Unread {
         words: &["--check", "--make", "3"],
-        status: ReportStatus::Clean,
+        status: ReportStatus::Done,
         out: "made nodes 43 scopes 4 symbols 9 references 9 free 3\n",
     },
     Unread {
         words: &["--make", "10000", "--check"],
-        status: ReportStatus::Clean,
+        status: ReportStatus::Done,
         out: "made nodes 140001 scopes 10001 symbols 30000 references 30000 free 10000\n",
     },
     Unread {
         words: &["--make", "10000"],
-        status: ReportStatus::Clean,
+        status: ReportStatus::Done,
         out: "made nodes 140001 scopes 10001 symbols 30000 references 30000 free 10000\n",
     },
 ];

@@ -26,11 +26,12 @@ use Rattle.semantic_model.proofs.form.Clauses.{kind_is}
 use Rattle.semantic_model.proofs.lists.Members.{among_at}
 use Rattle.semantic_model.proofs.once.HeadersEndOnce.{IsEntered}
 use Rattle.semantic_model.proofs.once.ListedUnder.{tie_for, nth_tie}
-use Rattle.language_ties.specs.Agreement.{is_symbol, is_none, is_tied_as_bound, agrees}
-use Rattle.language_ties.specs.AgreeingNames.{IsPlainName, IsBoundOutsideWith, AgreesApart}
+use Rattle.language_ties.specs.Agreement.{is_symbol, is_none, is_tied_as_bound, agrees, use_agrees, use_agrees_past_objects}
+use Rattle.tangle_model.specs.Surroundings.{in_with_under}
+use Rattle.language_ties.specs.AgreeingNames.{IsPlainName, StandsInExpressions}
 use Rattle.language_ties.specs.EcmaScript.{is_ecmascript}
 use Rattle.language_ties.specs.Environments.{environments}
-use Rattle.language_ties.specs.Meaning.{Meaning, unbound, of_object, bound, meaning}
+use Rattle.language_ties.specs.Meaning.{Meaning, unbound, of_object, bound, meaning_past_objects, use_at}
 use Rattle.language_ties.specs.Moved.{bound_of}
 use Rattle.language_ties.specs.NearestScopes.{nearest_symbol}
 use Rattle.language_ties.specs.SharedSymbols.{AllKeepClear}
@@ -38,8 +39,12 @@ use Rattle.language_ties.proofs.agree.Agreeing.{agree_program}
 use Rattle.language_ties.proofs.agree.EnteredOnce.{entered_once}
 use Rattle.language_ties.proofs.agree.PlaceAgreement.{AllAre, Matches, AgreesBy, AgreesAt}
 use Rattle.language_ties.proofs.caught.CaughtBounds.{no_block}
+use Rattle.language_ties.proofs.moved.BlockMeanings.{as_language, expressed}
+use Rattle.language_ties.proofs.moved.Settled.{bound_as_settled}
 use Rattle.language_ties.proofs.nearest.NearestTies.{ReadAt, read_at, tied_nearest}
 use Rattle.language_ties.proofs.symbols.OneSymbol.{of_map, each_at}
+use Rattle.language_ties.specs.Bound.{written}
+use Rattle.language_ties.proofs.with_bodies.PastObjects.{same_outside}
 
 -- ---- the reference of a node
 
@@ -126,7 +131,7 @@ module _ (p : Tree) where
       let one : is_symbol s (symbol_at (analysis_of p) i) ≡ true = ap (is_symbol s) k.0 ∙ elim (eqb_tells s s) [ inl e ↦ e.0 | inr e ↦ absurd (e.1 refl) ] in
       rw one (tied_to_all ids s k.1)
 
-  module _ (h : first_fault p ≡ None) (e : is_ecmascript p ≡ true) (numbered : IsNumbered p.root) (x : Name) (none : IsBoundOutsideWith p x) (not_arguments : bytes_eq x (codes "arguments") ≡ false) (clear : AllKeepClear x (declarations (events (steps p)))) (plain : IsPlainName p x) where
+  module _ (h : first_fault p ≡ None) (e : is_ecmascript p ≡ true) (numbered : IsNumbered p.root) (x : Name) (not_arguments : bytes_eq x (codes "arguments") ≡ false) (clear : AllKeepClear x (declarations (events (steps p)))) (plain : IsPlainName p x) where
     abbrev Fits : Option ℕ → Meaning → Type 0
     Fits o m = Matches p o m
 
@@ -161,10 +166,18 @@ module _ (p : Tree) where
     no_body : (q : Place) → is kind.IdentifierReference q.node ≡ true → is_catch_body q ≡ false
     no_body q k = no_block q (subst (λ j. same_kind j kind.BlockStatement ≡ false) (sym (kind_is q.node.kind kind.IdentifierReference k)) refl)
 
-    pub agrees_apart : AgreesApart p x
-    agrees_apart q a k n i =
-        let agree : Fits (nearest_symbol (run start (events (steps p))) (events (steps p)) x q.chain) (meaning (bound_of p) (environments q.node q.path) x) =
+    -- if no object of a `with` has the name
+    pub agrees_past_objects : (q : Place) → Among (entering q) (steps p) → is kind.IdentifierReference q.node ≡ true → q.node.text ≡ x → StandsInExpressions (written p.source_type (steps p)) x q.node q.path → use_agrees_past_objects (analysis_of p) (bound_of p) (use_at q) ≡ true
+    agrees_past_objects q a k n i =
+        let as_settled : Fits (nearest_symbol (run start (events (steps p))) (events (steps p)) x q.chain) (meaning_past_objects (bound_as_settled p) (environments q.node q.path) x) =
         subst (λ b. AgreesBy p x b q) (no_body q k)
-        (each_at (AgreesAt p x) (steps p) (entering q) (agree_program p h e numbered x none not_arguments clear plain) a (not_identifier q k) i.0) i.1 in
-        subst (λ y. agrees (analysis_of p) q.node.node_id (meaning (bound_of p) (environments q.node q.path) y) ≡ true) (sym n)
-        (fits_agree q.node.node_id (nearest_symbol (run start (events (steps p))) (events (steps p)) x q.chain) (meaning (bound_of p) (environments q.node q.path) x) (tied_here q a k n) agree)
+        (each_at (AgreesAt p x) (steps p) (entering q) (agree_program p h e numbered x not_arguments clear plain) a (not_identifier q k)) (expressed p x q.node q.path i) in
+        let agree : Fits (nearest_symbol (run start (events (steps p))) (events (steps p)) x q.chain) (meaning_past_objects (bound_of p) (environments q.node q.path) x) =
+        as_language p h e numbered x not_arguments plain q a (nearest_symbol (run start (events (steps p))) (events (steps p)) x q.chain) as_settled in
+        subst (λ y. agrees (analysis_of p) q.node.node_id (meaning_past_objects (bound_of p) (environments q.node q.path) y) ≡ true) (sym n)
+        (fits_agree q.node.node_id (nearest_symbol (run start (events (steps p))) (events (steps p)) x q.chain) (meaning_past_objects (bound_of p) (environments q.node q.path) x) (tied_here q a k n) agree)
+
+    -- outside of `with` there is none
+    pub agrees_outside : (q : Place) → Among (entering q) (steps p) → is kind.IdentifierReference q.node ≡ true → q.node.text ≡ x → in_with_under q.path ≡ false → StandsInExpressions (written p.source_type (steps p)) x q.node q.path → use_agrees (analysis_of p) (bound_of p) (use_at q) ≡ true
+    agrees_outside q a k n w i =
+        subst (λ m. agrees (analysis_of p) q.node.node_id m ≡ true) (sym (same_outside (bound_of p) q.node.text q.node q.path w)) (agrees_past_objects q a k n i)

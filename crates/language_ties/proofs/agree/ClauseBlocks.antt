@@ -1,88 +1,47 @@
 -- In the block of a catch clause, whose scope takes over that of the clause, tables and language agree where they do round the clause.
-use Rattle.std.proofs.Common.{◌≡◌, ℕ, suc, List, [], ◌∷◌, ◌++◌, Option, Some, None, Bool, true, false, ◌&&◌, ◌||◌, not, cond, map, length, inl, inr, refl, sym, ap, subst, ◌∙◌, bytes_eq, codes, arith}
+use Rattle.std.proofs.Common.{◌≡◌, ℕ, List, ◌∷◌, ◌++◌, Option, Some, None, true, false, refl, sym, ap, subst, ◌∙◌, bytes_eq, codes}
 use Rattle.std.specs.Prelude.{slice_get}
-use Rattle.std.proofs.lemmas.Bool.{not-true}
-use Rattle.semantic_syntax.proofs.Truth.{and_first, and_second, and_false}
-use Rattle.semantic_kinds.specs.Classes.{holds_kind}
-use Rattle.semantic_kinds.specs.Kinds.{same_kind}
-use Rattle.semantic_kinds.specs.declared.kind.AstType.{AstType}
 use Rattle.semantic_kinds.specs.declared.kind.AstType.TheVariants as kind
-use Rattle.semantic_kinds.specs.Roles.{same_role}
-use Rattle.semantic_kinds.specs.declared.role.Role.TheVariants as role
 use Rattle.semantic_syntax.specs.Tables.{Name}
 use Rattle.semantic_tree.specs.Faults.{first_fault}
-use Rattle.semantic_tree.specs.Forest.{Forest, nothing, tree}
 use Rattle.semantic_tree.specs.Tree.{Tree, IsNumbered}
 use Rattle.semantic_tree.specs.Views.{is}
-use Rattle.semantic_tree.specs.declared.node.Node.{Node}
-use Rattle.semantic_model.specs.Analysis.{analysis_of, symbol_at}
-use Rattle.semantic_model.specs.Binder.{is_statement}
 use Rattle.semantic_model.specs.Binding.{get}
-use Rattle.semantic_model.specs.Cursor.{on_entering}
-use Rattle.semantic_model.specs.EachStep.{EachStep}
-use Rattle.semantic_model.specs.Entries.{Among}
 use Rattle.semantic_model.specs.Event.{Event, declarations, events, is_catch_body}
 use Rattle.semantic_model.specs.Fold.{State, start, or_else}
 use Rattle.semantic_model.specs.Hoist.{run}
 use Rattle.semantic_model.specs.Inside.{is_inside, is_in_header}
-use Rattle.semantic_model.specs.Place as place
-use Rattle.semantic_model.specs.Place.{Place, OpenScope, outside, parent_holds}
-use Rattle.semantic_model.specs.Step.{Step, entering, opening, header_ending, closing, leaving, steps_below, steps, root_place}
-use Rattle.semantic_model.specs.Tie.{view, view_by, until_end_of}
-use Rattle.semantic_model.proofs.fold.BodyChains.{AllInTable, IsStepIn}
-use Rattle.semantic_model.proofs.fold.Orders.{table_of, steps_in}
+use Rattle.semantic_model.specs.Place.{Place, OpenScope, outside}
+use Rattle.semantic_model.specs.Step.{steps}
+use Rattle.semantic_model.specs.Tie.{view, view_by}
+use Rattle.semantic_model.proofs.fold.BodyChains.{AllInTable}
+use Rattle.semantic_model.proofs.fold.Orders.{table_of}
 use Rattle.semantic_model.proofs.form.Clauses.{kind_is}
-use Rattle.semantic_model.proofs.form.ParameterChains.{is_open_inside}
-use Rattle.semantic_model.proofs.form.Shape.{has_form}
-use Rattle.semantic_model.proofs.steps.EachStep.{EachOfTurn, each_left, each_of_node, each_of_turn, turn_of_each}
-use Rattle.semantic_model.proofs.steps.Turn.{Turn, turn_at}
-use Rattle.semantic_model.proofs.steps.TurnCases.{opening_case, ending_case, last_case}
-use Rattle.walk_model.proofs.places.Shapes.{holds_below}
-use Rattle.binding_laws.proofs.CutSteps.{WillAwait}
-use Rattle.tangle_model.specs.Surroundings.{in_with_under}
-use Rattle.language_ties.specs.AgreeingNames.{IsPlainName, IsBoundOutsideWith, StandsInExpressions}
-use Rattle.language_ties.specs.Bound.{Bound, is_bound_as, written}
+use Rattle.language_ties.specs.AgreeingNames.{IsPlainName, StandsInExpressions}
+use Rattle.language_ties.specs.Bound.{Bound}
 use Rattle.language_ties.specs.EcmaScript.{is_ecmascript}
-use Rattle.language_ties.specs.Environments.{Environment, same_environment_kind, is_made_for, is_outside_body, has_parameter_expressions, made_by, environments, innermost}
-use Rattle.language_ties.specs.Meaning.{Meaning, bound, identifiers_in, meaning}
-use Rattle.language_ties.specs.Moved.{bound_of}
+use Rattle.language_ties.specs.Environments.{Environment, made_by, environments}
+use Rattle.language_ties.specs.Meaning.{meaning_past_objects as meaning}
 use Rattle.language_ties.specs.NearestScopes.{nearest_symbol}
-use Rattle.language_ties.specs.Scopes.{Maker, maker_of_scope, maker_of_environment, has_scope, makers}
 use Rattle.language_ties.specs.SharedSymbols.{AllKeepClear}
-use Rattle.language_ties.specs.declared.bound_as.BoundAs.TheVariants as way
-use Rattle.language_ties.specs.declared.environment_kind.EnvironmentKind.{EnvironmentKind}
 use Rattle.language_ties.specs.declared.environment_kind.EnvironmentKind.TheVariants as environment
-use Rattle.language_ties.proofs.EnvironmentsRound.{IsKnown, KnownAt, known_program}
-use Rattle.language_ties.proofs.agree.EnteredOnce.{entered_once}
-use Rattle.language_ties.proofs.agree.FamiliarPlaces.{stands_well, is_function_kind, AllKnown, IsFamiliar, FamiliarAt, familiar_program}
-use Rattle.language_ties.proofs.agree.FunctionKinds.{function_kinds, arrow_kinds, IsOrdinary}
-use Rattle.language_ties.proofs.agree.Identifiers.{identifier_here, meaning_further, meaning_object, meaning_here}
-use Rattle.language_ties.proofs.agree.KnownBounds.{some_is, KnownBound}
+use Rattle.language_ties.proofs.agree.FamiliarPlaces.{AllKnown}
 use Rattle.language_ties.proofs.agree.KnownNodes.{node_at}
-use Rattle.language_ties.proofs.agree.MadeEnvironments.{may_make, environment_kind_is, EndsAtProgram, innermost_among}
-use Rattle.language_ties.proofs.agree.PlainBounds.{no_class}
 use Rattle.language_ties.proofs.caught.BodyPlaces.{block_takes}
-use Rattle.language_ties.proofs.caught.CaughtBounds.{IsTakenBy, not_taken, no_block, of_clause, taken_into}
-use Rattle.language_ties.proofs.caught.ClausePlaces.{IsClauseBody, StandsInClause, IsClausal, ClausalAt, clausal_program, body_kind}
-use Rattle.language_ties.proofs.headers.ChildChains.{ChainOf, outer_chain, inner_chain, OwnOf, own_of, chain_of}
-use Rattle.language_ties.proofs.headers.HeaderAnswers.{silent, answers_too, own_answers, caught_answers, caught_in_header, awaits}
-use Rattle.language_ties.proofs.headers.HeaderShape.{heads_parameters, tree_heads, header_list}
-use Rattle.language_ties.proofs.headers.Sides.{is_parameters}
-use Rattle.language_ties.proofs.own_names.AnyBounds.{AnyBound, any_bound}
-use Rattle.language_ties.proofs.own_names.OwnBounds.{IsOfExpression, OwnBound, own_maker}
-use Rattle.language_ties.proofs.own_names.OwnSymbols.{HasSymbol, class_symbol}
+use Rattle.language_ties.proofs.caught.CaughtBounds.{of_clause, taken_into}
+use Rattle.language_ties.proofs.caught.ClausePlaces.{IsClauseBody, body_kind}
+use Rattle.language_ties.proofs.headers.ChildChains.{ChainOf, outer_chain, inner_chain}
+use Rattle.language_ties.proofs.moved.Settled.{settled_bounds, bound_as_settled}
 use Rattle.language_ties.proofs.shared.HomesShared.{none_in_clause}
-use Rattle.language_ties.proofs.symbols.OneSymbol.{each_at}
-use Rattle.language_ties.proofs.symbols.ScopeOpeners.{openers, IsOpened, AllOpened, IsPlaceOpened, places_opened}
-use Rattle.language_ties.proofs.agree.ScopeAnswers as scopes
-use Rattle.language_ties.proofs.agree.ScopeAnswers.{arrow_rest, class_here, clause_block, directly, environment_is, function, further, here, is_here, is_there, no_if_body, none_there, one, own_rest, unanswered, unusual, visible}
+use Rattle.language_ties.proofs.symbols.ScopeOpeners.{openers, IsOpened, AllOpened}
+use Rattle.language_ties.proofs.agree.ScopeAnswers.{clause_block}
 use Rattle.language_ties.proofs.agree.PlaceAgreement.{outside_innermost, Matches, Agrees, AgreesRound}
 use Rattle.language_ties.proofs.agree.SeenPlaces.{IsSeen}
 
 never : true ≡ false → ⊥
 never h = absurd cc
 
-module _ (p : Tree) (h : first_fault p ≡ None) (e : is_ecmascript p ≡ true) (numbered : IsNumbered p.root) (x : Name) (none : IsBoundOutsideWith p x) (not_arguments : bytes_eq x (codes "arguments") ≡ false) (clear : AllKeepClear x (declarations (events (steps p)))) (plain : IsPlainName p x) where
+module _ (p : Tree) (h : first_fault p ≡ None) (e : is_ecmascript p ≡ true) (numbered : IsNumbered p.root) (x : Name) (not_arguments : bytes_eq x (codes "arguments") ≡ false) (clear : AllKeepClear x (declarations (events (steps p)))) (plain : IsPlainName p x) where
   abbrev es : List Event
   es = events (steps p)
 
@@ -90,10 +49,10 @@ module _ (p : Tree) (h : first_fault p ≡ None) (e : is_ecmascript p ≡ true) 
   final = run start es
 
   abbrev ws : List Bound
-  ws = written p.source_type (steps p)
+  ws = settled_bounds p
 
   abbrev bs : List Bound
-  bs = bound_of p
+  bs = bound_as_settled p
 
   module _ (q c : Place) (round : AgreesRound p x q) (closed : is_catch_body q ≡ true) (seen : IsSeen p q) (seen_child : IsSeen p c) (path : c.path ≡ q.node ∷ q.path) where
     clause : IsClauseBody q
@@ -134,8 +93,8 @@ module _ (p : Tree) (h : first_fault p ≡ None) (e : is_ecmascript p ≡ true) 
     block_agrees : (s : OpenScope) → s.opener ≡ q.node.node_id → s.in_header ≡ is_in_header q.node.kind c.role → c.chain ≡ s ∷ q.chain → Agrees p x c
     block_agrees s o header chain i =
         subst (λ n. Matches p n (meaning bs (environments c.node c.path) x)) (sym nearest) (subst (λ ds. Matches p (or_else (get final.bindings s.number x) R) (meaning bs ds x)) (sym block_environments)
-        (clause_block p h e numbered x none not_arguments clear plain s s_opened s_entry q.node o seen.familiar.node clause.parent clause.caught parent_found block
-        (of_clause p h e numbered x none plain q seen.entered closed clause s s_opened o) (taken_into p h e numbered x none plain q seen.entered closed clause s s_opened o) R Further (round_agrees i)))
+        (clause_block p h e numbered x not_arguments clear plain s s_opened s_entry q.node o seen.familiar.node clause.parent clause.caught parent_found block
+        (of_clause p h e numbered x plain q seen.entered closed clause s s_opened o) (taken_into p h e numbered x plain q seen.entered closed clause s s_opened o) R Further (round_agrees i)))
       where
         s_opened : IsOpened (openers (steps p)) s
         s_opened = (subst (AllOpened (openers (steps p))) chain seen_child.opened).0

@@ -23,9 +23,9 @@ function_kinds environment.Catch h u = absurd cc
 function_kinds environment.Class h u = absurd cc
 function_kinds environment.Object h u = absurd cc
 
--- of no object, no class, no own name and no catch clause
+-- of no class, no own name and no catch clause
 abbrev pub IsOrdinary : EnvironmentKind → Type 0
-IsOrdinary k = (same_environment_kind k environment.Object ≡ false) × (same_environment_kind k environment.Class ≡ false) × (same_environment_kind k environment.OwnName ≡ false) × (same_environment_kind k environment.Catch ≡ false)
+IsOrdinary k = (same_environment_kind k environment.Class ≡ false) × (same_environment_kind k environment.OwnName ≡ false) × (same_environment_kind k environment.Catch ≡ false)
 
 pub arrow_kinds : (e : EnvironmentKind) → may_make kind.ArrowFunctionExpression e ≡ true → (e ≡ environment.Body) ⊎ (e ≡ environment.ArrowParameters)
 arrow_kinds environment.Body h = inl refl

@@ -9,7 +9,7 @@ use Rattle.semantic_model.specs.Entries.{Among}
 use Rattle.semantic_model.proofs.once.ListedUnder.{name_tells}
 use Rattle.language_ties.specs.Bound.{Bound, is_bound_as}
 use Rattle.language_ties.specs.Environments.{Environment, same_environment_kind, same_environment, is_made_for}
-use Rattle.language_ties.specs.Meaning.{of_object, bound, is_bound_in, identifiers_in, binds_arguments, bound_or, meaning}
+use Rattle.language_ties.specs.Meaning.{bound, is_bound_in, identifiers_in, binds_arguments, bound_or, meaning_past_objects as meaning}
 use Rattle.language_ties.specs.Moved.{moved, bars, unless_barred}
 use Rattle.language_ties.specs.contracts.environment_kind.EnvironmentKind.{the_type as the_kinds}
 use Rattle.language_ties.specs.declared.bound_as.BoundAs.TheVariants as way
@@ -24,14 +24,14 @@ pub same_again : (e : Environment) → same_environment e e ≡ true
 same_again e = elim (eqb_tells e.maker e.maker) [ inl m ↦ rw (same_kind_again e.kind, m.0) refl | inr m ↦ absurd (m.1 refl) ]
 
 -- a variable of a block function may be barred; all else stays as it is bound
-moved_name : (ws : List Bound) (b : Bound) → (moved ws b).name ≡ b.name
+pub moved_name : (ws : List Bound) (b : Bound) → (moved ws b).name ≡ b.name
 moved_name ws b = go (is_bound_as way.Function b)
   where
     go : (t : Bool) → (cond t (record b { also = unless_barred ws b b.also }) b).name ≡ b.name
     go true = refl
     go false = refl
 
-moved_identifier : (ws : List Bound) (b : Bound) → (moved ws b).identifier ≡ b.identifier
+pub moved_identifier : (ws : List Bound) (b : Bound) → (moved ws b).identifier ≡ b.identifier
 moved_identifier ws b = go (is_bound_as way.Function b)
   where
     go : (t : Bool) → (cond t (record b { also = unless_barred ws b b.also }) b).identifier ≡ b.identifier
@@ -134,17 +134,10 @@ module _ (bs : List Bound) (x : Name) (not_arguments : bytes_eq x (codes "argume
   no_arguments = ap (λ b. is_made_for environment.Parameters e && b) not_arguments ∙ and_false (is_made_for environment.Parameters e)
 
   -- where the environment does not bind it, the next one does or none
-  pub meaning_further : is_made_for environment.Object e ≡ false → identifiers_in bs e x ≡ [] → meaning bs (e ∷ ds) x ≡ meaning bs ds x
-  meaning_further o i =
-      ap (λ b. cond b (of_object e) (bound_or e (identifiers_in bs e x) (cond (binds_arguments e x) (bound e []) (meaning bs ds x)))) o
-      ∙ ap (λ l. bound_or e l (cond (binds_arguments e x) (bound e []) (meaning bs ds x))) i
+  pub meaning_further : identifiers_in bs e x ≡ [] → meaning bs (e ∷ ds) x ≡ meaning bs ds x
+  meaning_further i =
+      ap (λ l. bound_or e l (cond (binds_arguments e x) (bound e []) (meaning bs ds x))) i
       ∙ ap (λ b. cond b (bound e []) (meaning bs ds x)) no_arguments
 
-  -- an object's means what it has
-  pub meaning_object : is_made_for environment.Object e ≡ true → meaning bs (e ∷ ds) x ≡ of_object e
-  meaning_object o = ap (λ b. cond b (of_object e) (bound_or e (identifiers_in bs e x) (cond (binds_arguments e x) (bound e []) (meaning bs ds x)))) o
-
-  pub meaning_here : (i : ℕ) (is : List ℕ) → is_made_for environment.Object e ≡ false → identifiers_in bs e x ≡ i ∷ is → meaning bs (e ∷ ds) x ≡ bound e (i ∷ is)
-  meaning_here i is o q =
-      ap (λ b. cond b (of_object e) (bound_or e (identifiers_in bs e x) (cond (binds_arguments e x) (bound e []) (meaning bs ds x)))) o
-      ∙ ap (λ l. bound_or e l (cond (binds_arguments e x) (bound e []) (meaning bs ds x))) q
+  pub meaning_here : (i : ℕ) (is : List ℕ) → identifiers_in bs e x ≡ i ∷ is → meaning bs (e ∷ ds) x ≡ bound e (i ∷ is)
+  meaning_here i is q = ap (λ l. bound_or e l (cond (binds_arguments e x) (bound e []) (meaning bs ds x))) q

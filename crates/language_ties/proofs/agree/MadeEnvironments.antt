@@ -6,13 +6,12 @@ use Rattle.semantic_syntax.proofs.Truth.{and_first, and_second}
 use Rattle.semantic_kinds.specs.Kinds.{same_kind}
 use Rattle.semantic_kinds.specs.declared.kind.AstType.{AstType}
 use Rattle.semantic_kinds.specs.declared.kind.AstType.TheVariants as kind
-use Rattle.semantic_kinds.specs.declared.role.Role.TheVariants as role
-use Rattle.semantic_tree.specs.Views.{is, is_child_in}
+use Rattle.semantic_tree.specs.Views.{is}
 use Rattle.semantic_tree.specs.declared.node.Node.{Node}
 use Rattle.semantic_model.specs.Binder.{is_statement}
 use Rattle.semantic_model.specs.Entries.{Among}
 use Rattle.semantic_model.proofs.lists.Members.{among_cases}
-use Rattle.language_ties.specs.Environments.{Environment, same_environment_kind, same_environment, is_made_for, has_parameter_expressions, is_outside_body, made_by, environments, innermost, takes_variables, first_taking, environment_or, variable_environment}
+use Rattle.language_ties.specs.Environments.{Environment, same_environment_kind, same_environment, is_made_for, has_parameter_expressions, is_outside_body, is_body_of_with, made_by, environments, innermost, takes_variables, first_taking, environment_or, variable_environment}
 use Rattle.language_ties.specs.contracts.environment_kind.EnvironmentKind.{the_type as the_kinds}
 use Rattle.language_ties.specs.declared.environment_kind.EnvironmentKind.{EnvironmentKind}
 use Rattle.language_ties.specs.declared.environment_kind.EnvironmentKind.TheVariants as environment
@@ -117,7 +116,7 @@ made_here kind.ForInStatement x child nodes e q a b h = made_one nodes x environ
 made_here kind.ForOfStatement x child nodes e q a b h = made_one nodes x environment.Loop e a (kind_of_node kind.ForOfStatement x environment.Loop q refl) refl h
 made_here kind.CatchClause x child nodes e q a b h = made_one nodes x environment.Catch e a (kind_of_node kind.CatchClause x environment.Catch q refl) refl h
 made_here kind.Class x child nodes e q a b h = made_unless (is kind.Decorator child) nodes x environment.Class e a (kind_of_node kind.Class x environment.Class q refl) refl h
-made_here kind.WithStatement x child nodes e q a b h = made_if (is_child_in role.Body x child) nodes x environment.Object e a (λ i. kind_of_node kind.WithStatement x environment.Object q refl) refl h
+made_here kind.WithStatement x child nodes e q a b h = made_if (is_body_of_with child) nodes x environment.Object e a (λ i. kind_of_node kind.WithStatement x environment.Object q refl) refl h
 made_here _ x child nodes e q a b h = absurd h
 
 pub made_in : (child : Node) (path : List Node) (e : Environment) → Among e (environments child path) → IsMadeBy (child ∷ path) e
@@ -143,7 +142,7 @@ innermost_among child x [] h = subst (λ k. Among (innermost (made_by k x child 
 innermost_among child x (y ∷ path) h = innermost_of (made_by x.kind x child) (environments x (y ∷ path)) (innermost_among x y path h)
 
 -- the first that takes variables is there, or the innermost
-taking_among : (es : List Environment) (e : Environment) → first_taking es ≡ Some e → Among e es
+pub taking_among : (es : List Environment) (e : Environment) → first_taking es ≡ Some e → Among e es
 taking_among [] e h = absurd cc
 taking_among (d ∷ es) e h = go (takes_variables d) h (taking_among es e)
   where
@@ -202,7 +201,7 @@ innermost_usual child (x ∷ path) n = go x.kind refl (λ h. innermost_usual x p
     go kind.ForOfStatement e later = (refl, refl)
     go kind.CatchClause e later = (refl, refl)
     go kind.Class e later = unless (is kind.Decorator child) (record { kind = environment.Class; maker = x.node_id }) (refl, refl) (further kind.Class e refl later)
-    go kind.WithStatement e later = one_or (is_child_in role.Body x child) (record { kind = environment.Object; maker = x.node_id }) (refl, refl) (further kind.WithStatement e refl later)
+    go kind.WithStatement e later = one_or (is_body_of_with child) (record { kind = environment.Object; maker = x.node_id }) (refl, refl) (further kind.WithStatement e refl later)
     go _ e later = further _ e refl later
 
 -- an environment that takes variables is neither

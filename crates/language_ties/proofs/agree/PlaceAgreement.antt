@@ -10,13 +10,11 @@ use Rattle.semantic_model.specs.Fold.{start}
 use Rattle.semantic_model.specs.Hoist.{run}
 use Rattle.semantic_model.specs.Place.{Place, OpenScope, outside}
 use Rattle.semantic_model.specs.Step.{Step, entering, opening, header_ending, closing, leaving, steps}
-use Rattle.tangle_model.specs.Surroundings.{in_with_under}
 use Rattle.language_ties.specs.AgreeingNames.{StandsInExpressions}
-use Rattle.language_ties.specs.Bound.{written}
 use Rattle.language_ties.specs.Environments.{Environment, environments}
-use Rattle.language_ties.specs.Meaning.{Meaning, unbound, of_object, bound, meaning}
-use Rattle.language_ties.specs.Moved.{bound_of}
+use Rattle.language_ties.specs.Meaning.{Meaning, unbound, of_object, bound, meaning_past_objects as meaning}
 use Rattle.language_ties.specs.NearestScopes.{nearest_symbol}
+use Rattle.language_ties.proofs.moved.Settled.{settled_bounds, bound_as_settled}
 
 abbrev pub outside_innermost : List Environment → List Environment
 outside_innermost [] = []
@@ -37,22 +35,22 @@ module _ (p : Tree) where
   module _ (x : Name) where
     -- the nearest of the scopes has the symbol of what the nearest of the environments binds
     abbrev pub MatchIn : List OpenScope → List Environment → Type 0
-    MatchIn chain ds = Matches (nearest_symbol (run start (events (steps p))) (events (steps p)) x chain) (meaning (bound_of p) ds x)
+    MatchIn chain ds = Matches (nearest_symbol (run start (events (steps p))) (events (steps p)) x chain) (meaning (bound_as_settled p) ds x)
 
     -- so it is at a place that stands in expressions among the parameters that bind the name
     abbrev pub Agrees : Place → Type 0
-    Agrees q = StandsInExpressions (written p.source_type (steps p)) x q.node q.path → MatchIn q.chain (environments q.node q.path)
+    Agrees q = StandsInExpressions (settled_bounds p) x q.node q.path → MatchIn q.chain (environments q.node q.path)
 
     -- or, of the body of a clause, what is round the clause: its own scope takes over that of the clause
     abbrev pub AgreesRound : Place → Type 0
-    AgreesRound q = StandsInExpressions (written p.source_type (steps p)) x q.node q.path → MatchIn (outside q.chain) (outside_innermost (environments q.node q.path))
+    AgreesRound q = StandsInExpressions (settled_bounds p) x q.node q.path → MatchIn (outside q.chain) (outside_innermost (environments q.node q.path))
 
     abbrev pub AgreesBy : Bool → Place → Type 0
     AgreesBy true q = AgreesRound q
     AgreesBy false q = Agrees q
 
     abbrev pub AgreesAt : Step → Type 0
-    AgreesAt (entering q) = is kind.BindingIdentifier q.node ≡ false → in_with_under q.path ≡ false → AgreesBy (is_catch_body q) q
+    AgreesAt (entering q) = is kind.BindingIdentifier q.node ≡ false → AgreesBy (is_catch_body q) q
     AgreesAt (opening q o) = Unit {0}
     AgreesAt (header_ending q o) = Unit {0}
     AgreesAt (closing q o) = Unit {0}

@@ -19,8 +19,7 @@ use Rattle.semantic_model.specs.Place.{Place}
 use Rattle.semantic_model.specs.Step.{Step, entering, opening, header_ending, closing, leaving, steps}
 use Rattle.semantic_model.proofs.lists.Members.{among_cases}
 use Rattle.program_laws.proofs.DeclaredNodes.{among_map, among_flat}
-use Rattle.tangle_model.specs.Surroundings.{in_with_under}
-use Rattle.language_ties.specs.AgreeingNames.{has_none, is_declared_plainly, IsBoundOutsideWith}
+use Rattle.language_ties.specs.AgreeingNames.{has_none, is_declared_plainly}
 use Rattle.language_ties.specs.Bound as language
 use Rattle.language_ties.specs.Bound.{Bound, bound_identifier, bound_here, bound_outward, bound_by_declarator, bound_by_declaration, bound_by_function, bound_by_class, bound_by_catch, bound_by_node, is_bound_as, written}
 use Rattle.language_ties.specs.EcmaScript.{is_ecmascript}
@@ -197,46 +196,44 @@ module _ (s : SourceType) (x y : Node) (path : List Node) (rooted : EndsAtProgra
 
 -- ---- the program
 
--- where it is bound, and by which node that environment is made
+-- by which node its environment is made
 pub record IsPlacedBound (p : Tree) (b : Bound) : Type 0 where
-  pub by_node : IsBoundByNode p b
   pub usual : IsUsual b.environment
   pub maker : Node
   pub found : node_at p b.environment.maker ≡ Some maker
   pub makes : may_make maker.kind b.environment.kind ≡ true
   pub body : is_made_for environment.Body b.environment ≡ true → has_parameter_expressions maker ≡ true
 
-placed_in : (p : Tree) (b : Bound) (q : Place) (path : List Node) → q.path ≡ path → Among (entering q) (steps p) → IsFamiliar (node_at p) q → in_with_under q.path ≡ false → is_declared_plainly b ≡ true → is_bound_as bound.OwnName b ≡ false → Among b (bound_by_node q.node.kind p.source_type q.node q.path) → IsPlacedBound p b
-placed_in p b q [] e a f w h o c = absurd (root_binds q.node.kind (subst (EndsAtProgram q.node) e f.rooted) (subst (λ l. Among b (bound_by_node q.node.kind p.source_type q.node l)) e c))
+placed_in : (p : Tree) (b : Bound) (q : Place) (path : List Node) → q.path ≡ path → Among (entering q) (steps p) → IsFamiliar (node_at p) q → is_declared_plainly b ≡ true → is_bound_as bound.OwnName b ≡ false → Among b (bound_by_node q.node.kind p.source_type q.node q.path) → IsBoundByNode p b × IsPlacedBound p b
+placed_in p b q [] e a f h o c = absurd (root_binds q.node.kind (subst (EndsAtProgram q.node) e f.rooted) (subst (λ l. Among b (bound_by_node q.node.kind p.source_type q.node l)) e c))
   where
     root_binds : (k : AstType) → q.node.kind ≡ kind.Program → Among b (bound_by_node q.node.kind p.source_type q.node []) → ⊥
     root_binds k r i = subst (λ j. Among b (bound_by_node j p.source_type q.node [])) r i
-placed_in p b q (y ∷ path) e a f w h o c =
+placed_in p b q (y ∷ path) e a f h o c =
     let there : Among b (bound_by_node q.node.kind p.source_type q.node (y ∷ path)) = subst (λ l. Among b (bound_by_node q.node.kind p.source_type q.node l)) e c in
     let rooted : EndsAtProgram y path = subst (EndsAtProgram q.node) e f.rooted in
     let known : AllKnown (node_at p) (y ∷ path) = subst (AllKnown (node_at p)) e f.path in
     let st : Stands p.source_type q.node (y ∷ path) b = by_kind p.source_type q.node y path rooted q.node.kind b refl h o there in
-    let m : IsMadeBy (q.node ∷ y ∷ path) b.environment = made_in q.node (y ∷ path) b.environment st.among in
-    record {
-      by_node = record {
+    let m : IsMadeBy (q.node ∷ y ∷ path) b.environment = made_in q.node (y ∷ path) b.environment st.among in (
+      record {
         place = q;
         entered = a;
-        apart_from_with = w;
         no_leaving = subst (λ l. may_leave_block p.source_type q.node l ≡ false) (sym e) st.no_leaving;
         no_own_name = o;
         binds = c;
-      };
-      usual = st.usual;
-      maker = m.maker;
-      found = ap (node_at p) m.is ∙ known_among (node_at p) (q.node ∷ y ∷ path) m.maker (f.node, known) m.among;
-      makes = m.makes;
-      body = m.body;
-    }
+      },
+      record {
+        usual = st.usual;
+        maker = m.maker;
+        found = ap (node_at p) m.is ∙ known_among (node_at p) (q.node ∷ y ∷ path) m.maker (f.node, known) m.among;
+        makes = m.makes;
+        body = m.body;
+      },
+    )
 
-pub placed_bound : (p : Tree) → first_fault p ≡ None → is_ecmascript p ≡ true → IsNumbered p.root → (x : Name) → IsBoundOutsideWith p x → (b : Bound) → Among b (written p.source_type (steps p)) → b.name ≡ x → is_declared_plainly b ≡ true → is_bound_as bound.OwnName b ≡ false → IsPlacedBound p b
-placed_bound p h e numbered x none b a named plain o =
+pub placed_bound : (p : Tree) → first_fault p ≡ None → is_ecmascript p ≡ true → IsNumbered p.root → (x : Name) → (b : Bound) → Among b (written p.source_type (steps p)) → b.name ≡ x → is_declared_plainly b ≡ true → is_bound_as bound.OwnName b ≡ false → IsBoundByNode p b × IsPlacedBound p b
+placed_bound p h e numbered x b a named plain o =
     let at : IsBoundAt p.source_type (steps p) b = bound_at_place p.source_type (steps p) b a in
     placed_in p b at.place at.place.path refl at.entered
     (each_at (FamiliarAt (node_at p)) (steps p) (entering at.place) (familiar_program p h e numbered) at.entered)
-    (none at.place at.entered b at.binds named)
     plain o at.binds

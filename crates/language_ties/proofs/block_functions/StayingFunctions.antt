@@ -4,17 +4,15 @@ use Rattle.std.proofs.lemmas.Bool.{cases_Bool}
 use Rattle.semantic_kinds.specs.Kinds.{same_kind}
 use Rattle.semantic_kinds.specs.declared.kind.AstType.{AstType}
 use Rattle.semantic_kinds.specs.declared.kind.AstType.TheVariants as kind
-use Rattle.semantic_kinds.specs.declared.role.Role.TheVariants as role
 use Rattle.semantic_syntax.specs.SourceTypes.{is_typescript}
 use Rattle.semantic_syntax.specs.declared.source_type.SourceType.{SourceType}
-use Rattle.semantic_tree.specs.Views.{is, is_child_in}
+use Rattle.semantic_tree.specs.Views.{is}
 use Rattle.semantic_tree.specs.declared.node.Node.{Node}
 use Rattle.semantic_model.specs.Binder.{is_block_function, is_clause, is_special, is_statement, is_var}
 use Rattle.semantic_model.specs.Place as place
 use Rattle.semantic_model.specs.Place.{Place, is_strict}
-use Rattle.tangle_model.specs.Surroundings.{in_with_under}
 use Rattle.language_ties.specs.Bound as language
-use Rattle.language_ties.specs.Environments.{Environment, is_made_for, has_parameter_expressions, is_outside_body, made_by, environments, innermost, takes_variables}
+use Rattle.language_ties.specs.Environments.{Environment, is_made_for, has_parameter_expressions, is_outside_body, is_body_of_with, made_by, environments, innermost, takes_variables}
 use Rattle.language_ties.specs.Scopes.{maker_of_scope, maker_of_environment}
 use Rattle.language_ties.specs.ToldNames.{may_leave_block}
 use Rattle.language_ties.specs.declared.environment_kind.EnvironmentKind.TheVariants as environment
@@ -60,7 +58,7 @@ innermost_unnamed child (x ∷ path) = go x.kind (innermost_unnamed x path)
     go kind.ForOfStatement h = refl
     go kind.CatchClause h = refl
     go kind.Class h = unless (is kind.Decorator child) (record { kind = environment.Class; maker = x.node_id }) refl h
-    go kind.WithStatement h = one_or (is_child_in role.Body x child) (record { kind = environment.Object; maker = x.node_id }) refl h
+    go kind.WithStatement h = one_or (is_body_of_with child) (record { kind = environment.Object; maker = x.node_id }) refl h
     go _ h = h
 
 -- ---- the function
@@ -101,9 +99,9 @@ no_scope false b c true w e = refl
 no_scope a b c false w e = absurd cc
 
 -- nor do the tables move it
-pub stays_there : (s : SourceType) (q : Place) → IsKnown q → in_with_under q.path ≡ false → Strict s q → q.node.kind ≡ kind.Function → StaysInBlock s q.node q.path → is_block_function q ≡ false
-stays_there s q known w strict function stays = elim (cases_Bool (takes_variables (innermost (environments q.node q.path)))) [
-  | inl t ↦ (let made : maker_of_scope (place.innermost q.chain) ≡ maker_of_environment (innermost (environments q.node q.path)) = innermost_made q.chain q.node q.path (known.round w) (inr stays.no_body) in
+pub stays_there : (s : SourceType) (q : Place) → IsKnown q → Strict s q → q.node.kind ≡ kind.Function → StaysInBlock s q.node q.path → is_block_function q ≡ false
+stays_there s q known strict function stays = elim (cases_Bool (takes_variables (innermost (environments q.node q.path)))) [
+  | inl t ↦ (let made : maker_of_scope (place.innermost q.chain) ≡ maker_of_environment (innermost (environments q.node q.path)) = innermost_made q.chain q.node q.path known.round (inr stays.no_body) in
       no_scope (not (is_special q.node)) (not (is_typescript q.source_type)) (not (is_strict q.chain)) (is_var (place.innermost q.chain)) (is_clause (place.innermost q.chain)) (ap (λ m. m.takes_variables) made ∙ t))
   | inr t ↦ elim (cases_Bool (is_special q.node)) [
     | inl u ↦ ap (λ b. not b && not (is_typescript q.source_type) && not (is_strict q.chain) && not (is_var (place.innermost q.chain) || is_clause (place.innermost q.chain))) u

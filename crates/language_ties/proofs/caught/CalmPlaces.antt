@@ -165,7 +165,7 @@ part_quiet k part k2 text h i =
     parameters true true u v = is_parameter_kind part.class k2 text u i
     parameters true false u v = absurd (never (sym v))
 
-tree_quiet : (p : Tree) → first_fault p ≡ None → holds_below is_quiet p.root.kind p.root.children ≡ true
+pub tree_quiet : (p : Tree) → first_fault p ≡ None → holds_below is_quiet p.root.kind p.root.children ≡ true
 tree_quiet p h = tree_holds is_quiet (λ k. passed_hold is_quiet (quiet_part k) k (part_quiet k) (parts k) (all_quiet k)) p h
 
 -- ---- places

@@ -18,7 +18,7 @@ use Rattle.semantic_model.specs.Step.{entering, steps}
 use Rattle.semantic_model.proofs.fold.BodyChains.{InTable, AllInTable, IsStepIn}
 use Rattle.semantic_model.proofs.fold.Orders.{table_of, steps_in}
 use Rattle.semantic_model.proofs.form.Shape.{has_form}
-use Rattle.language_ties.specs.AgreeingNames.{IsPlainName, IsBoundOutsideWith}
+use Rattle.language_ties.specs.AgreeingNames.{IsPlainName}
 use Rattle.language_ties.specs.Bound.{Bound}
 use Rattle.language_ties.specs.EcmaScript.{is_ecmascript}
 use Rattle.language_ties.proofs.agree.EnteredOnce.{entered_once}
@@ -46,11 +46,11 @@ pub record IsTakenBy (p : Tree) (b : Bound) (body : ℕ) : Type 0 where
   pub takes : clause.clause.body ≡ Some body
   pub maker : clause.parent.node_id ≡ b.environment.maker
 
-module _ (p : Tree) (h : first_fault p ≡ None) (e : is_ecmascript p ≡ true) (numbered : IsNumbered p.root) (x : Name) (none : IsBoundOutsideWith p x) (plain : IsPlainName p x) where
-  abbrev Target : (b : Bound) → KnownBound p h e numbered x none plain b → OpenScope
+module _ (p : Tree) (h : first_fault p ≡ None) (e : is_ecmascript p ≡ true) (numbered : IsNumbered p.root) (x : Name) (plain : IsPlainName p x) where
+  abbrev Target : (b : Bound) → KnownBound p h e numbered x plain b → OpenScope
   Target b k = k.declares.declaration.route.target
 
-  module _ (b : Bound) (k : KnownBound p h e numbered x none plain b) (n : ℕ) (q : (Target b k).body ≡ Some n) where
+  module _ (b : Bound) (k : KnownBound p h e numbered x plain b) (n : ℕ) (q : (Target b k).body ≡ Some n) where
     inner : Target b k ≡ innermost k.declares.place.chain
     inner = k.declares.bodied n q
 
@@ -81,16 +81,16 @@ module _ (p : Tree) (h : first_fault p ≡ None) (e : is_ecmascript p ≡ true) 
       maker = sym clause.opener ∙ sym (some_is (Target b k).opener clause.clause.opener (sym k.declares.opened ∙ ap (slice_get (openers (steps p))) number ∙ opened)) ∙ k.declares.maker;
     }
 
-  pub taken_by : (b : Bound) (v : AnyBound p h e numbered x none plain b) (n : ℕ) → (is_declared p h e numbered x none plain b v).declaration.route.target.body ≡ Some n → IsTakenBy p b n
-  taken_by b (inl k) n q = known_taken b k n (ap (λ d. d.route.target.body) (sym (declared_known p h e numbered x none plain b k)) ∙ q)
-  taken_by b (inr o) n q = absurd (none_is n (sym o.bodiless ∙ ap (λ s. s.body) (sym o.target) ∙ ap (λ d. d.route.target.body) (sym (declared_own p h e numbered x none plain b o)) ∙ q))
+  pub taken_by : (b : Bound) (v : AnyBound p h e numbered x plain b) (n : ℕ) → (is_declared p h e numbered x plain b v).declaration.route.target.body ≡ Some n → IsTakenBy p b n
+  taken_by b (inl k) n q = known_taken b k n (ap (λ d. d.route.target.body) (sym (declared_known p h e numbered x plain b k)) ∙ q)
+  taken_by b (inr o) n q = absurd (none_is n (sym o.bodiless ∙ ap (λ s. s.body) (sym o.target) ∙ ap (λ d. d.route.target.body) (sym (declared_own p h e numbered x plain b o)) ∙ q))
 
   -- what is bound at its home in a scope is bound by the scope's opener, or by the clause whose body it is
-  pub made_where : (b : Bound) (v : AnyBound p h e numbered x none plain b) (s : OpenScope) → IsOpened (openers (steps p)) s → home (is_declared p h e numbered x none plain b v).declaration ≡ s.number → (b.environment.maker ≡ s.opener) ⊎ IsTakenBy p b s.number
+  pub made_where : (b : Bound) (v : AnyBound p h e numbered x plain b) (s : OpenScope) → IsOpened (openers (steps p)) s → home (is_declared p h e numbered x plain b v).declaration ≡ s.number → (b.environment.maker ≡ s.opener) ⊎ IsTakenBy p b s.number
   made_where b v s o q = go k.declaration.route.target.body refl
     where
-      k : IsDeclared p h e numbered x none plain b
-      k = is_declared p h e numbered x none plain b v
+      k : IsDeclared p h e numbered x plain b
+      k = is_declared p h e numbered x plain b v
 
       go : (t : Option ℕ) → k.declaration.route.target.body ≡ t → (b.environment.maker ≡ s.opener) ⊎ IsTakenBy p b s.number
       go None w =
@@ -119,7 +119,7 @@ not_taken p numbered q a n s o opener b t =
 parents_are : (y z : Node) (ys zs : List Node) → y ∷ ys ≡ z ∷ zs → y ≡ z
 parents_are y z ys zs h = cc
 
-module _ (p : Tree) (h : first_fault p ≡ None) (e : is_ecmascript p ≡ true) (numbered : IsNumbered p.root) (x : Name) (none : IsBoundOutsideWith p x) (plain : IsPlainName p x)
+module _ (p : Tree) (h : first_fault p ≡ None) (e : is_ecmascript p ≡ true) (numbered : IsNumbered p.root) (x : Name) (plain : IsPlainName p x)
     (q : Place) (entered : Among (entering q) (steps p)) (closed : is_catch_body q ≡ true) (clause : IsClauseBody q) (s : OpenScope) (o : IsOpened (openers (steps p)) s) (opener : s.opener ≡ q.node.node_id) where
   -- what it takes over is bound by its clause
   pub of_clause : (b : Bound) → IsTakenBy p b s.number → b.environment.maker ≡ clause.parent.node_id
@@ -133,7 +133,7 @@ module _ (p : Tree) (h : first_fault p ≡ None) (e : is_ecmascript p ≡ true) 
   clause_opened = (subst (AllOpened (openers (steps p))) clause.chain (each_at (IsPlaceOpened (openers (steps p))) (steps p) (entering q) (places_opened p) entered)).0
 
   -- and it takes over what its clause binds
-  pub taken_into : (b : Bound) (k : KnownBound p h e numbered x none plain b) → b.environment.maker ≡ clause.parent.node_id → k.declares.declaration.route.target.body ≡ Some s.number
+  pub taken_into : (b : Bound) (k : KnownBound p h e numbered x plain b) → b.environment.maker ≡ clause.parent.node_id → k.declares.declaration.route.target.body ≡ Some s.number
   taken_into b k maker =
       let target : OpenScope = k.declares.declaration.route.target in
       let number : target.number ≡ clause.clause.number = one_scope p numbered target clause.clause k.declares.opened clause_opened (k.declares.maker ∙ maker ∙ sym clause.opener) in

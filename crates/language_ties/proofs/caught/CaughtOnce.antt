@@ -35,7 +35,6 @@ use Rattle.walk_model.proofs.headers.NoStatements.{is_loose, is_statement_text}
 use Rattle.walk_model.proofs.once.NamesInRole.{AtMostOne, one_pattern}
 use Rattle.program_laws.proofs.DeclaredNodes.{among_map, among_flat}
 use Rattle.tangle_model.specs.Surroundings.{in_with_under}
-use Rattle.language_ties.specs.AgreeingNames.{IsBoundOutsideWith}
 use Rattle.language_ties.specs.Bound.{Bound, bound_identifier, bound_here, bound_outward, bound_by_declarator, bound_by_declaration, bound_by_function, bound_by_class, bound_by_catch, bound_by_node, is_block_function, is_bound_as, written}
 use Rattle.language_ties.specs.EcmaScript.{is_ecmascript}
 use Rattle.language_ties.specs.Environments.{Environment, made_by, environments, innermost, passed, takes_variables, variable_environment}
@@ -109,7 +108,7 @@ opener_is : (chain : List OpenScope) (m : Maker) (ms : List Maker) → map maker
 opener_is [] m ms h = absurd cc
 opener_is (s ∷ ss) m ms h = let w : maker_of_scope s ≡ m = cc in ap (λ z. z.node) w
 
-module _ (p : Tree) (h : first_fault p ≡ None) (e : is_ecmascript p ≡ true) (numbered : IsNumbered p.root) (name : Name) (none : IsBoundOutsideWith p name) where
+module _ (p : Tree) (h : first_fault p ≡ None) (e : is_ecmascript p ≡ true) (numbered : IsNumbered p.root) (name : Name) where
   familiar_at : (q : Place) → Among (entering q) (steps p) → IsFamiliar (node_at p) q
   familiar_at q a = each_at (FamiliarAt (node_at p)) (steps p) (entering q) (familiar_program p h e numbered) a
 
@@ -137,7 +136,7 @@ module _ (p : Tree) (h : first_fault p ≡ None) (e : is_ecmascript p ≡ true) 
     calm w b =
         let known : IsKnown r = each_at KnownAt (steps p) (entering r) (known_program p h e) entered in
         let (ms, makers_are) = first_maker es clause.node_id w in
-        let opener : (place.innermost r.chain).opener ≡ clause.node_id = opener_is r.chain (record { node = clause.node_id; takes_variables = false }) ms (known.round (none r entered c binds named) ∙ makers_are) in
+        let opener : (place.innermost r.chain).opener ≡ clause.node_id = opener_is r.chain (record { node = clause.node_id; takes_variables = false }) ms (known.round ∙ makers_are) in
         let clausal : IsClausal (node_at p) r = each_at (ClausalAt (node_at p)) (steps p) (entering r) (clausal_program p h e numbered) entered in
         elim (clausal.stands clause (ap (node_at p) opener ∙ found) caught) [
           | inl v ↦ (quiet_at r entered).calm clause (ap (node_at p) opener ∙ found) caught v

@@ -1,5 +1,5 @@
 -- A `var` that passes the body of a clause passes the clause.
-use Rattle.std.proofs.Common.{◌≡◌, ℕ, ◌==◌, List, [], ◌∷◌, Option, Some, None, Bool, true, false, ◌&&◌, ◌||◌, cond, map, inl, inr, refl, sym, ap, subst, ◌∙◌}
+use Rattle.std.proofs.Common.{◌≡◌, ℕ, ◌==◌, List, [], ◌∷◌, Option, Some, None, Bool, true, false, ◌&&◌, ◌||◌, cond, inl, inr, refl, sym, ap, subst, ◌∙◌}
 use Rattle.std.specs.Prelude.{slice_get}
 use Rattle.std.proofs.lemmas.Bool.Decides.{eqb_tells}
 use Rattle.semantic_syntax.specs.Members.{contains}
@@ -15,6 +15,7 @@ use Rattle.semantic_model.specs.EachStep.{EachStep}
 use Rattle.semantic_model.specs.Entries.{Among}
 use Rattle.semantic_model.specs.Place.{Place, OpenScope}
 use Rattle.semantic_model.specs.Step.{Step, entering, opening, header_ending, closing, leaving, steps_below, steps, root_place}
+use Rattle.semantic_model.specs.TablesOf.{numbers}
 use Rattle.semantic_model.proofs.fold.BodyChains.{InTable, AllInTable, IsStepIn}
 use Rattle.semantic_model.proofs.fold.Orders.{table_of, steps_in}
 use Rattle.semantic_model.proofs.form.ParameterChains.{is_open_inside}
@@ -22,7 +23,7 @@ use Rattle.semantic_model.proofs.form.Shape.{has_form}
 use Rattle.semantic_model.proofs.steps.EachStep.{EachOfTurn, each_left, each_of_node, each_of_turn, turn_of_each}
 use Rattle.semantic_model.proofs.steps.Turn.{Turn, turn_at}
 use Rattle.semantic_model.proofs.steps.TurnCases.{opening_case, ending_case, last_case}
-use Rattle.language_ties.specs.AgreeingNames.{IsPlainName, IsBoundOutsideWith}
+use Rattle.language_ties.specs.AgreeingNames.{IsPlainName}
 use Rattle.language_ties.specs.Bound.{Bound}
 use Rattle.language_ties.specs.EcmaScript.{is_ecmascript}
 use Rattle.language_ties.proofs.agree.EnteredOnce.{entered_once}
@@ -111,9 +112,6 @@ module _ (p : Tree) (numbered : IsNumbered p.root) (n : ℕ) (body : Place) (ent
   -- ---- what is passed
 
   module _ (clause : OpenScope) (round : List OpenScope) (chain_is : body.chain ≡ clause ∷ round) (no_var : is_var clause ≡ false) where
-    abbrev numbers : List OpenScope → List ℕ
-    numbers ss = map (λ s. s.number) ss
-
     clause_next : (ss : List OpenScope) → ss ≡ body.chain → contains (numbers (passed_before is_var ss)) clause.number ≡ true
     clause_next ss q = subst (λ l. contains (numbers (passed_before is_var l)) clause.number ≡ true) (sym (q ∙ chain_is))
         (subst (λ b. contains (numbers (cond b [] (clause ∷ passed_before is_var round))) clause.number ≡ true) (sym no_var) (first clause.number))
@@ -142,15 +140,15 @@ module _ (p : Tree) (numbered : IsNumbered p.root) (n : ℕ) (body : Place) (ent
         go None w = absurd (never (sym w))
         go (Some s) w = passed_next ss f w
 
-module _ (p : Tree) (h : first_fault p ≡ None) (e : is_ecmascript p ≡ true) (numbered : IsNumbered p.root) (x : Name) (none : IsBoundOutsideWith p x) (plain : IsPlainName p x) where
+module _ (p : Tree) (h : first_fault p ≡ None) (e : is_ecmascript p ≡ true) (numbered : IsNumbered p.root) (x : Name) (plain : IsPlainName p x) where
   -- where what takes a declaration over is passed, its own scope is
-  pub clause_passed : (b : Bound) (k : KnownBound p h e numbered x none plain b) (n : ℕ) → k.declares.declaration.route.target.body ≡ Some n → (q : Place) → Among (entering q) (steps p)
-      → contains (map (λ s. s.number) (outward_to is_var q.chain).passed) n ≡ true → contains (map (λ s. s.number) (outward_to is_var q.chain).passed) k.declares.declaration.route.target.number ≡ true
+  pub clause_passed : (b : Bound) (k : KnownBound p h e numbered x plain b) (n : ℕ) → k.declares.declaration.route.target.body ≡ Some n → (q : Place) → Among (entering q) (steps p)
+      → contains (numbers (outward_to is_var q.chain).passed) n ≡ true → contains (numbers (outward_to is_var q.chain).passed) k.declares.declaration.route.target.number ≡ true
   clause_passed b k n w q a passes =
-      let t : IsTakenBy p b n = taken_by p h e numbered x none plain b (inl k) n (ap (λ d. d.route.target.body) (declared_known p h e numbered x none plain b k) ∙ w) in
+      let t : IsTakenBy p b n = taken_by p h e numbered x plain b (inl k) n (ap (λ d. d.route.target.body) (declared_known p h e numbered x plain b k) ∙ w) in
       let in_table : InTable (table_of p) t.clause.clause = (subst (AllInTable (table_of p)) t.clause.chain (each_at (IsStepIn (table_of p)) (steps p) (entering t.place) (steps_in p (has_form p h)) t.entered)).0 in
       let opened : IsOpened (openers (steps p)) t.clause.clause = (subst (AllOpened (openers (steps p))) t.clause.chain (each_at (IsPlaceOpened (openers (steps p))) (steps p) (entering t.place) (places_opened p) t.entered)).0 in
       let number : t.clause.clause.number ≡ k.declares.declaration.route.target.number = one_scope p numbered t.clause.clause k.declares.declaration.route.target opened k.declares.opened (t.clause.opener ∙ t.maker ∙ sym k.declares.maker) in
       let followed : BodyFollowed p numbered n t.place t.entered t.opened q.chain = each_at (FollowedAt p numbered n t.place t.entered t.opened) (steps p) (entering q) (followed_program p numbered n t.place t.entered t.opened h e) a in
-      subst (λ m. contains (map (λ s. s.number) (outward_to is_var q.chain).passed) m ≡ true) number
+      subst (λ m. contains (numbers (outward_to is_var q.chain).passed) m ≡ true) number
       (route_next p numbered n t.place t.entered t.opened t.clause.clause t.clause.round t.clause.chain (in_table.plain n t.takes).0 q.chain followed passes)

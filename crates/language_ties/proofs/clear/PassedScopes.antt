@@ -3,15 +3,14 @@ use Rattle.std.proofs.Common.{◌≡◌, ℕ, List, [], ◌∷◌, ◌++◌, Opt
 use Rattle.std.proofs.lemmas.Bool.Decides.{eqb_tells}
 use Rattle.semantic_kinds.specs.declared.kind.AstType.{AstType}
 use Rattle.semantic_kinds.specs.declared.kind.AstType.TheVariants as kind
-use Rattle.semantic_kinds.specs.declared.role.Role.TheVariants as role
 use Rattle.semantic_syntax.specs.Members.{contains}
-use Rattle.semantic_tree.specs.Views.{is, is_child_in}
+use Rattle.semantic_tree.specs.Views.{is}
 use Rattle.semantic_tree.specs.declared.node.Node.{Node}
 use Rattle.semantic_model.specs.Binder.{is_statement, is_var}
 use Rattle.semantic_model.specs.Declaration.{passed_before, first_with, route_from, outward_to}
 use Rattle.semantic_model.specs.Entries.{Among}
 use Rattle.semantic_model.specs.Place.{OpenScope}
-use Rattle.language_ties.specs.Environments.{Environment, is_outside_body, has_parameter_expressions, made_by, environments, innermost, takes_variables, passed, first_taking, environment_or, variable_environment}
+use Rattle.language_ties.specs.Environments.{Environment, is_outside_body, has_parameter_expressions, is_body_of_with, made_by, environments, innermost, takes_variables, passed, first_taking, environment_or, variable_environment}
 use Rattle.language_ties.specs.Scopes.{Maker, maker_of_scope, maker_of_environment, has_scope, makers}
 use Rattle.language_ties.specs.declared.environment_kind.EnvironmentKind.TheVariants as environment
 use Rattle.language_ties.proofs.agree.MadeEnvironments.{EndsAtProgram}
@@ -76,7 +75,7 @@ environments_before child (x ∷ path) = go x.kind (environments_before x path)
     go kind.ForOfStatement h = one_before x.node_id (environments x path) h
     go kind.CatchClause h = one_before x.node_id (environments x path) h
     go kind.Class h = class_before (is kind.Decorator child) x (environments x path) h
-    go kind.WithStatement h = object_before (is_child_in role.Body x child) x (environments x path) h
+    go kind.WithStatement h = object_before (is_body_of_with child) x (environments x path) h
     go _ h = h
 
 -- ---- what is passed
@@ -154,11 +153,11 @@ taking_later (c ∷ es) fs h = go (takes_variables c) (taking_later es fs h)
     go false k = k
 
 -- below a program some environment takes variables
-takes_some : (child x : Node) (path : List Node) → EndsAtProgram x path → (d : Environment) × (first_taking (environments child (x ∷ path)) ≡ Some d)
+pub takes_some : (child x : Node) (path : List Node) → EndsAtProgram x path → (d : Environment) × (first_taking (environments child (x ∷ path)) ≡ Some d)
 takes_some child x [] h = subst (λ k. (d : Environment) × (first_taking (made_by k x child ++ []) ≡ Some d)) (sym h) (record { kind = environment.Global; maker = x.node_id }, refl)
 takes_some child x (y ∷ path) h = taking_later (made_by x.kind x child) (environments x (y ∷ path)) (takes_some x y path h)
 
-taking_takes : (es : List Environment) (d : Environment) → first_taking es ≡ Some d → takes_variables d ≡ true
+pub taking_takes : (es : List Environment) (d : Environment) → first_taking es ≡ Some d → takes_variables d ≡ true
 taking_takes [] d h = absurd cc
 taking_takes (c ∷ es) d h = go (takes_variables c) refl h (taking_takes es d)
   where

@@ -1,46 +1,32 @@
 -- The declarations of a plain name of which no `var` clashes keep clear of each other.
-use Rattle.std.proofs.Common.{◌≡◌, ℕ, ◌≤◌, List, [], ◌∷◌, ◌++◌, Some, None, Bool, true, false, ◌&&◌, ◌||◌, not, cond, map, flat_map, inl, inr, ◌⊎◌, refl, sym, ap, subst, ◌∙◌, bytes_eq, codes, if◌then◌else◌}
+use Rattle.std.proofs.Common.{◌≡◌, ℕ, ◌≤◌, List, [], ◌∷◌, ◌++◌, Option, Some, None, Bool, true, false, ◌||◌, not, cond, map, inl, inr, ◌⊎◌, refl, sym, ap, subst, ◌∙◌, bytes_eq}
 use Rattle.std.specs.List.{list_any}
 use Rattle.std.specs.Prelude.{slice_get}
-use Rattle.std.proofs.lemmas.Bool.{cases_Bool, and_from}
-use Rattle.semantic_syntax.proofs.Truth.{or_true}
-use Rattle.semantic_kinds.specs.Kinds.{same_kind}
+use Rattle.std.proofs.lemmas.Bool.{cases_Bool}
+use Rattle.std.proofs.lemmas.Bool.Decides.{eqb_tells}
 use Rattle.semantic_kinds.specs.declared.kind.AstType.{AstType}
 use Rattle.semantic_kinds.specs.declared.kind.AstType.TheVariants as kind
-use Rattle.semantic_kinds.specs.Classes.{holds_kind}
-use Rattle.semantic_kinds.specs.declared.mark.Mark.TheVariants as mark
-use Rattle.semantic_kinds.specs.declared.role.Role.TheVariants as role
 use Rattle.semantic_syntax.specs.Members.{contains}
-use Rattle.semantic_syntax.specs.Sets.{union}
 use Rattle.semantic_syntax.specs.Tables.{Name}
-use Rattle.semantic_syntax.specs.declared.source_type.SourceType.{SourceType}
-use Rattle.semantic_syntax.specs.declared.symbol_flags.TheConstants.SymbolFlags as symbol
 use Rattle.semantic_tree.specs.Faults.{first_fault}
 use Rattle.semantic_tree.specs.Tree.{Tree, IsNumbered}
-use Rattle.semantic_tree.specs.Views.{is, has, is_with_text, children_of}
 use Rattle.semantic_tree.specs.declared.node.Node.{Node}
-use Rattle.semantic_model.specs.Binder.{BinderRow, declaration_at, declare_here, variable_row, variables_under, is_pure_declarator, is_statement, is_var, is_block_function, function_row, class_row, ids, parameter_excluded, parameters_under, import_flags, catch_names, declared_by, declared_on_entering}
-use Rattle.semantic_model.specs.Declaration.{Declaration, How, plain, hoisted, moved, caught, here, passed_before, outward_to}
+use Rattle.semantic_model.specs.Binder.{is_var, declared_on_entering}
+use Rattle.semantic_model.specs.Declaration.{Declaration, plain, hoisted, moved, caught, body_list, path, Meets, here, passed_before, route_from, outward_to}
 use Rattle.semantic_model.specs.Entries.{Among, times}
 use Rattle.semantic_model.specs.Event.{declarations, events}
-use Rattle.semantic_model.specs.Names.{bound_names, bound_below, names_at}
-use Rattle.semantic_model.specs.Place.{Place, OpenScope, parent_holds}
-use Rattle.semantic_model.specs.Step.{Step, entering, steps}
-use Rattle.semantic_model.proofs.fold.EachDeclared.{EachDeclared, each_on_entering}
-use Rattle.semantic_model.proofs.form.Clauses.{kind_is}
-use Rattle.semantic_model.proofs.form.ParameterShape.{is_parameter}
-use Rattle.semantic_model.proofs.lists.Members.{among_left, among_right, among_cases}
+use Rattle.semantic_model.specs.Place.{Place, OpenScope}
+use Rattle.semantic_model.specs.Step.{entering, steps}
+use Rattle.semantic_model.proofs.lists.Members.{among_left}
 use Rattle.semantic_model.proofs.once.ListedUnder.{name_tells}
 use Rattle.walk_model.proofs.headers.NoStatements.{is_loose}
-use Rattle.program_laws.proofs.DeclaredNodes.{among_map, among_flat}
-use Rattle.language_ties.specs.AgreeingNames.{is_declared_plainly, IsPlainName, IsBoundOutsideWith}
-use Rattle.language_ties.specs.Bound as language
-use Rattle.language_ties.specs.Bound.{Bound, bound_identifier, bound_here, bound_outward, bound_by_declarator, bound_by_declaration, bound_by_function, bound_by_class, bound_by_catch, bound_by_node, bound_at, is_bound_as, written}
+use Rattle.language_ties.specs.AgreeingNames.{is_declared_plainly, IsPlainName}
+use Rattle.language_ties.specs.Bound.{Bound, bound_by_node, is_bound_as, written}
 use Rattle.language_ties.specs.contracts.bound_as.BoundAs.{the_type as the_ways}
 use denote.Enum.Bare.{same_true}
 use Rattle.language_ties.specs.EarlyErrors.{meets_lexical, clashes, has_clash}
-use Rattle.language_ties.specs.EcmaScript.{is_ecmascript_kind, is_ecmascript}
-use Rattle.language_ties.specs.Environments.{Environment, same_environment, is_made_for, is_outside_body, has_parameter_expressions, made_by, environments, innermost, passed, takes_variables, variable_environment}
+use Rattle.language_ties.specs.EcmaScript.{is_ecmascript}
+use Rattle.language_ties.specs.Environments.{Environment, is_made_for, made_by, environments, innermost, passed, takes_variables}
 use Rattle.language_ties.specs.Moved.{is_lexical_in, moved as moved_by, unless_barred, bound_of}
 use Rattle.language_ties.specs.Scopes.{maker_of_scope, has_scope, makers}
 use Rattle.language_ties.specs.SharedSymbols.{IsBoundIn, KeepsClear, AllKeepClear}
@@ -50,24 +36,25 @@ use Rattle.language_ties.specs.declared.environment_kind.EnvironmentKind.{Enviro
 use Rattle.language_ties.specs.declared.environment_kind.EnvironmentKind.TheVariants as environment
 use Rattle.language_ties.proofs.EnvironmentsRound.{IsKnown, KnownAt, known_program}
 use Rattle.language_ties.proofs.UndeclaredNames.{each_identifier}
-use Rattle.language_ties.proofs.agree.FamiliarPlaces.{is_function_kind, is_parent, ParentsFit, AllKnown, IsFamiliar, FamiliarAt, familiar_program, known_among}
-use Rattle.language_ties.proofs.agree.Identifiers.{same_again}
-use Rattle.language_ties.proofs.agree.KnownBounds.{some_is, KnownBound}
+use Rattle.language_ties.proofs.agree.FamiliarPlaces.{AllKnown, IsFamiliar, FamiliarAt, familiar_program, known_among}
+use Rattle.language_ties.proofs.agree.KnownBounds.{some_is, LeavesThere, KnownBound, bodiless}
 use Rattle.language_ties.proofs.agree.KnownNodes.{node_at}
-use Rattle.language_ties.proofs.agree.MadeEnvironments.{environment_kind_is, may_make, IsMadeBy, made_in, EndsAtProgram}
+use Rattle.language_ties.proofs.agree.MadeEnvironments.{environment_kind_is, may_make, IsMadeBy, made_in}
 use Rattle.language_ties.proofs.agree.PlainBounds.{by_one}
 use Rattle.language_ties.proofs.caught.CaughtBounds.{IsTakenBy, taken_by}
 use Rattle.language_ties.proofs.caught.CaughtOnce.{caught_once}
 use Rattle.language_ties.proofs.caught.CaughtNames.{catch_environment, catch_kind}
 use Rattle.language_ties.proofs.caught.ClausePlaces.{UnderClause, IsClausal, ClausalAt, clausal_program, body_kind}
 use Rattle.language_ties.proofs.caught.PassedBodies.{clause_passed}
-use Rattle.language_ties.proofs.clear.ParameterPlaces.{parameter_takes}
-use Rattle.language_ties.proofs.clear.PassedScopes.{IsPassed, passes_scope, passed_takes_none, before_among, scope_of_number, route_passes, variables_taken}
+use Rattle.language_ties.proofs.clear.HowDeclared.{IsVariable, hoisted_kind, hoisted_is, variable_bound, plain_never, moved_never, none_caught, lexical_or_taken, among_written}
+use Rattle.language_ties.proofs.clear.PassedScopes.{IsPassed, passes_scope, passed_takes_none, before_among, scope_of_number, route_passes, taking_takes}
 use Rattle.language_ties.proofs.clear.SingleNames.{identifier_of, same_declaration, declared_once, differ, fewer}
+use Rattle.language_ties.proofs.moved.OnWays.{IsOnWay, IsRouteOnWay, plain_on_way, own_on_way, left_on_way}
+use Rattle.language_ties.proofs.moved.Settled.{settled, settled_bounds, settled_name, settled_identifier, settled_among}
 use Rattle.language_ties.proofs.own_names.AnyBounds.{AnyBound, any_bound, IsDeclared, is_declared, declared_known, declared_own, IsMade, is_made, own_kind}
 use Rattle.language_ties.proofs.own_names.OwnBounds.{IsOfExpression, OwnBound}
 use Rattle.language_ties.proofs.own_names.PassedClasses.{HoldsLoose, LooseAt, loose_program, passes_no_class}
-use Rattle.language_ties.proofs.symbols.OneSymbol.{of_map, each_at, declared_at}
+use Rattle.language_ties.proofs.symbols.OneSymbol.{of_map, each_at, declared_at, DeclarationOf, StaysThere}
 use Rattle.language_ties.proofs.symbols.ScopeOpeners.{openers, IsOpened, AllOpened, IsPlaceOpened, places_opened}
 
 never : true ≡ false → ⊥
@@ -122,242 +109,6 @@ one_kind kind.Class a b m h i s t = both_are a b environment.Class (environment_
 one_kind kind.WithStatement a b m h i s t = both_are a b environment.Object (environment_kind_is a environment.Object h) (environment_kind_is b environment.Object i)
 one_kind _ a b m h i s t = absurd (never (sym h))
 
--- ---- how a declaration is made
-
--- only declarators of `var` declare as it does
-record IsVariable (q : Place) (d : Declaration) : Type 0 where
-  declaration : Node
-  path : List Node
-  above : q.path ≡ declaration ∷ path
-  var : is_with_text kind.VariableDeclaration (codes "var") declaration ≡ true
-  route : d.route ≡ outward_to is_var q.chain
-
-variable_of : (q : Place) (path : List Node) → q.path ≡ path → (d : Declaration) → Among d (variables_under path q) → d.how ≡ hoisted → IsVariable q d
-variable_of q [] e d a h = absurd a
-variable_of q (declaration ∷ path) e d a h = go (is_with_text kind.VariableDeclaration (codes "var") declaration) refl
-  where
-    go : (b : Bool) → is_with_text kind.VariableDeclaration (codes "var") declaration ≡ b → IsVariable q d
-    go true w =
-        let (n, c, i) = among_map (declaration_at q.node (variable_row declaration q.chain) (is_pure_declarator q.node)) (bound_names q.node) d a in
-        record { declaration = declaration; path = path; above = e; var = w; route = sym (ap (λ z. z.route) i) ∙ rw w refl }
-    go false w =
-        let (n, c, i) = among_map (declaration_at q.node (variable_row declaration q.chain) (is_pure_declarator q.node)) (bound_names q.node) d a in
-        let plainly : (variable_row declaration q.chain).how ≡ plain = rw w refl in
-        absurd (different (sym h ∙ sym (ap (λ z. z.how) i) ∙ plainly))
-      where
-        different : hoisted ≡ plain → ⊥
-        different z = absurd cc
-
-hoisted_kind : (q : Place) → EachDeclared (λ d. d.how ≡ hoisted → q.node.kind ≡ kind.VariableDeclarator) (declared_by q.node.kind q)
-hoisted_kind q = each_on_entering (λ d. d.how ≡ hoisted → q.node.kind ≡ kind.VariableDeclarator) (λ how r. how ≡ hoisted → q.node.kind ≡ kind.VariableDeclarator) (λ node row is_pure name r. r) q.node.kind q (record {
-  at_home = λ w. absurd cc;
-  when_caught = λ w. absurd cc;
-  when_hoisted = λ e w. e;
-  when_moved = λ e s b w. absurd cc;
-  when_inferred = λ w. absurd cc;
-})
-
-hoisted_is : (q : Place) (d : Declaration) → Among d (declared_on_entering q) → d.how ≡ hoisted → IsVariable q d
-hoisted_is q d a h =
-    let k : q.node.kind ≡ kind.VariableDeclarator = declared_at (λ z. z.how ≡ hoisted → q.node.kind ≡ kind.VariableDeclarator) (declared_on_entering q) d (hoisted_kind q) a h in
-    variable_of q q.path refl d (subst (λ j. Among d (declared_by j q)) k a) h
-
--- what it binds is a variable
-variable_bound : (s : SourceType) (q : Place) (d : Declaration) (v : IsVariable q d) (b : Bound) → q.node.kind ≡ kind.VariableDeclarator → Among b (bound_by_node q.node.kind s q.node q.path) → (is_bound_as bound.Var b ≡ true) × (b.passed ≡ passed (environments q.node q.path))
-variable_bound s q d v b k a =
-    let es : List Environment = environments q.node (v.declaration ∷ v.path) in
-    let there : Among b (bound_by_declarator q.node (v.declaration ∷ v.path)) = subst (λ l. Among b (bound_by_declarator q.node l)) v.above (subst (λ j. Among b (bound_by_node j s q.node q.path)) k a) in
-    let outward : Among b (map (bound_outward es) (bound_names q.node)) = subst (λ t. Among b (map (cond t (bound_outward es) (bound_here bound.Lexical es)) (bound_names q.node))) v.var there in
-    let (n, c, i) = among_map (bound_outward es) (bound_names q.node) b outward in
-    (sym (ap (is_bound_as bound.Var) i), sym (ap (λ z. z.passed) i) ∙ ap (λ l. passed (environments q.node l)) (sym v.above))
-
--- a plain catch name is bound as one, and nothing else is caught
-row_how : (node : Node) (row : BinderRow) (b : Bool) (names : List Node) (d : Declaration) → Among d (map (declaration_at node row b) names) → d.how ≡ row.how
-row_how node row b names d a = let (n, c, i) = among_map (declaration_at node row b) names d a in sym (ap (λ z. z.how) i)
-
-never_caught : (w : How) → (w ≡ caught → ⊥) → (d : Declaration) → d.how ≡ w → d.how ≡ caught → ⊥
-never_caught w n d h c = n (sym h ∙ c)
-
-plain_never : plain ≡ caught → ⊥
-plain_never h = absurd cc
-
-hoisted_never : hoisted ≡ caught → ⊥
-hoisted_never h = absurd cc
-
-moved_never : moved ≡ caught → ⊥
-moved_never h = absurd cc
-
-module _ (s : SourceType) (q : Place) (x : Name) (none : (b : Bound) → Among b (bound_by_node q.node.kind s q.node q.path) → b.name ≡ x → is_bound_as bound.CatchName b ≡ false) where
-  caught_here : (flags excluded : ℕ) (names : List Node) (d : Declaration) → Among d (declare_here q flags excluded names) → d.how ≡ caught → ⊥
-  caught_here flags excluded names d a = never_caught plain plain_never d (row_how q.node (record { flags = flags; excluded = excluded; how = plain; route = here q.chain }) false names d a)
-
-  caught_variable : (path : List Node) (d : Declaration) → Among d (variables_under path q) → d.how ≡ caught → ⊥
-  caught_variable [] d a = absurd a
-  caught_variable (y ∷ path) d a = go (is_with_text kind.VariableDeclaration (codes "var") y) refl (row_how q.node (variable_row y q.chain) (is_pure_declarator q.node) (bound_names q.node) d a)
-    where
-      go : (b : Bool) → is_with_text kind.VariableDeclaration (codes "var") y ≡ b → d.how ≡ (variable_row y q.chain).how → d.how ≡ caught → ⊥
-      go true w r = never_caught hoisted hoisted_never d (r ∙ rw w refl)
-      go false w r = never_caught plain plain_never d (r ∙ rw w refl)
-
-  caught_function : (d : Declaration) → Among d (declared_by kind.Function q) → d.how ≡ caught → ⊥
-  caught_function d a = go (is_statement q.node) a
-    where
-      by : (b : Bool) → is_block_function q ≡ b → d.how ≡ (function_row q).how → d.how ≡ caught → ⊥
-      by true w r = never_caught moved moved_never d (r ∙ rw w refl)
-      by false w r = never_caught plain plain_never d (r ∙ rw w refl)
-
-      go : (b : Bool) → Among d (cond b (map (declaration_at q.node (function_row q) (has mark.Pure q.node)) (ids q.node)) []) → d.how ≡ caught → ⊥
-      go true c = by (is_block_function q) refl (row_how q.node (function_row q) (has mark.Pure q.node) (ids q.node) d c)
-      go false c = absurd c
-
-  caught_class : (d : Declaration) → Among d (declared_by kind.Class q) → d.how ≡ caught → ⊥
-  caught_class d a = go (is_statement q.node) a
-    where
-      go : (b : Bool) → Among d (cond b (map (declaration_at q.node (class_row q q.chain) false) (ids q.node)) []) → d.how ≡ caught → ⊥
-      go true c = never_caught plain plain_never d (row_how q.node (class_row q q.chain) false (ids q.node) d c)
-      go false c = absurd c
-
-  caught_parameter : (path : List Node) (d : Declaration) → Among d (parameters_under path q) → d.how ≡ caught → ⊥
-  caught_parameter [] d a = absurd a
-  caught_parameter (y ∷ path) d a = caught_here symbol.FunctionScopedVariable.bits (parameter_excluded y q.chain) (bound_names q.node) d a
-
-  caught_rest : (d : Declaration) → Among d (declared_by kind.BindingRestElement q) → d.how ≡ caught → ⊥
-  caught_rest d a = go (parent_holds (is kind.FormalParameters) q.path) a
-    where
-      go : (b : Bool) → Among d (cond b (declare_here q symbol.FunctionScopedVariable.bits (union symbol.FunctionScopedVariableExcludes.bits symbol.FunctionScopedVariable.bits) (bound_names q.node)) []) → d.how ≡ caught → ⊥
-      go true c = caught_here symbol.FunctionScopedVariable.bits (union symbol.FunctionScopedVariableExcludes.bits symbol.FunctionScopedVariable.bits) (bound_names q.node) d c
-      go false c = absurd c
-
-  caught_catch : (patterns : List Node) → ((b : Bound) → Among b (flat_map (bound_by_catch (environments q.node q.path)) patterns) → b.name ≡ x → is_bound_as bound.CatchName b ≡ false) → (d : Declaration) → Among d (flat_map (catch_names q) patterns) → d.naming.name ≡ x → d.how ≡ caught → ⊥
-  caught_catch [] k d a n = absurd a
-  caught_catch (y ∷ ys) k d a n = elim (among_cases d (catch_names q y) (flat_map (catch_names q) ys) a) [
-    | inl c ↦ go (is kind.BindingIdentifier y) refl c
-    | inr c ↦ caught_catch ys (λ b i. k b (among_right b (bound_by_catch (environments q.node q.path) y) (flat_map (bound_by_catch (environments q.node q.path)) ys) i)) d c n
-  ]
-    where
-      row : BinderRow
-      row = record { flags = union symbol.FunctionScopedVariable.bits symbol.CatchVariable.bits; excluded = 0; how = caught; route = here q.chain }
-
-      go : (t : Bool) → is kind.BindingIdentifier y ≡ t → Among d (if t then declaration_at q.node row false y ∷ [] else declare_here q (union symbol.BlockScopedVariable.bits symbol.CatchVariable.bits) symbol.BlockScopedVariableExcludes.bits (bound_names y)) → d.how ≡ caught → ⊥
-      go true w (inl c) =
-          let f : Bound = bound_here bound.CatchName (environments q.node q.path) y in
-          let there : Among f (bound_by_catch (environments q.node q.path) y) = subst (λ t. Among f (map (bound_here (cond t bound.CatchName bound.Lexical) (environments q.node q.path)) (cond t (y ∷ []) (bound_below y.kind y.children)))) (sym w) (inl refl) in
-          let v : is_bound_as bound.CatchName f ≡ false = k f (among_left f (bound_by_catch (environments q.node q.path) y) (flat_map (bound_by_catch (environments q.node q.path)) ys) there) (ap (λ z. z.naming.name) c ∙ n) in
-          λ z. never v
-      go true w (inr c) = absurd c
-      go false w c = caught_here (union symbol.BlockScopedVariable.bits symbol.CatchVariable.bits) symbol.BlockScopedVariableExcludes.bits (bound_names y) d c
-
-  none_caught : (k : AstType) → q.node.kind ≡ k → is_ecmascript_kind k ≡ true → (d : Declaration) → Among d (declared_by k q) → d.naming.name ≡ x → d.how ≡ caught → ⊥
-  none_caught kind.VariableDeclarator w i d a n = caught_variable q.path d a
-  none_caught kind.Function w i d a n = caught_function d a
-  none_caught kind.Class w i d a n = caught_class d a
-  none_caught kind.FormalParameter w i d a n = caught_parameter q.path d a
-  none_caught kind.FormalParameterRest w i d a n = caught_parameter q.path d a
-  none_caught kind.BindingRestElement w i d a n = caught_rest d a
-  none_caught kind.CatchParameter w i d a n = caught_catch (children_of role.Pattern q.node.children) (λ b c. none b (subst (λ j. Among b (bound_by_node j s q.node q.path)) (sym w) c)) d a n
-  none_caught kind.ImportSpecifier w i d a n = caught_here (import_flags q) symbol.ImportBindingExcludes.bits (names_at role.Local q.node) d a
-  none_caught kind.ImportDefaultSpecifier w i d a n = caught_here (import_flags q) symbol.ImportBindingExcludes.bits (names_at role.Local q.node) d a
-  none_caught kind.ImportNamespaceSpecifier w i d a n = caught_here (import_flags q) symbol.ImportBindingExcludes.bits (names_at role.Local q.node) d a
-  none_caught kind.TSImportEqualsDeclaration w i d a n = absurd (never (sym i))
-  none_caught kind.TSTypeAliasDeclaration w i d a n = absurd (never (sym i))
-  none_caught kind.TSInterfaceDeclaration w i d a n = absurd (never (sym i))
-  none_caught kind.TSEnumDeclaration w i d a n = absurd (never (sym i))
-  none_caught kind.TSEnumMember w i d a n = absurd (never (sym i))
-  none_caught kind.TSNamespaceDeclaration w i d a n = absurd (never (sym i))
-  none_caught kind.TSTypeParameter w i d a n = absurd (never (sym i))
-  none_caught _ w i d a n = absurd a
-
--- ---- as what a plain name is bound
-
--- lexically, where variables go, or as a plain catch name
-abbrev LexicalOrTaken : Bound → Type 0
-LexicalOrTaken b = (is_lexical_in b.environment b ≡ true) ⊎ ((takes_variables b.environment ≡ true) ⊎ (is_bound_as bound.CatchName b ≡ true))
-
-by_lexical : (b : Bound) → is_bound_as bound.Lexical b ≡ true → LexicalOrTaken b
-by_lexical b l = inl (and_from (same_environment b.environment b.environment) _ (same_again b.environment) (ap (λ t. t || (is_bound_as bound.Function b && not (takes_variables b.environment))) l))
-
-by_function : (b : Bound) → is_bound_as bound.Function b ≡ true → LexicalOrTaken b
-by_function b f = elim (cases_Bool (takes_variables b.environment)) [
-  | inl t ↦ inr (inl t)
-  | inr t ↦ inl (and_from (same_environment b.environment b.environment) _ (same_again b.environment) (ap (λ u. is_bound_as bound.Lexical b || u) (rw (f, t) refl) ∙ or_true (is_bound_as bound.Lexical b)))
-]
-
-module _ (s : SourceType) (q : Place) (f : ParentsFit q.node.kind q.path) (rooted : EndsAtProgram q.node q.path) (b : Bound) (no_own : is_bound_as bound.OwnName b ≡ false) where
-  lexical_names : (es : List Environment) (names : List Node) → Among b (map (bound_here bound.Lexical es) names) → LexicalOrTaken b
-  lexical_names es names a = let (n, c, i) = among_map (bound_here bound.Lexical es) names b a in by_lexical b (sym (ap (is_bound_as bound.Lexical) i))
-
-  declarator : (path : List Node) → q.path ≡ path → Among b (bound_by_declarator q.node path) → LexicalOrTaken b
-  declarator [] e a = absurd a
-  declarator (y ∷ path) e a = go (is_with_text kind.VariableDeclaration (codes "var") y) a
-    where
-      go : (t : Bool) → Among b (map (cond t (bound_outward (environments q.node (y ∷ path))) (bound_here bound.Lexical (environments q.node (y ∷ path)))) (bound_names q.node)) → LexicalOrTaken b
-      go true c =
-          let (n, d, i) = among_map (bound_outward (environments q.node (y ∷ path))) (bound_names q.node) b c in
-          inr (inl (subst (λ z. takes_variables z ≡ true) (ap (λ z. z.environment) i) (variables_taken q.node y path (subst (EndsAtProgram q.node) e rooted))))
-      go false c = lexical_names (environments q.node (y ∷ path)) (bound_names q.node) c
-
-  function_sort : (n : Node) → is_bound_as bound.Function (bound_by_declaration s q.node q.path n) ≡ true
-  function_sort n = either (language.is_block_function s q.node q.path)
-    where
-      either : (t : Bool) → is_bound_as bound.Function (cond t (bound_identifier bound.Function (innermost (environments q.node q.path)) (variable_environment (environments q.node q.path) ∷ []) (passed (environments q.node q.path)) n) (bound_here bound.Function (environments q.node q.path) n)) ≡ true
-      either true = refl
-      either false = refl
-
-  function : Among b (bound_by_function s q.node q.path) → LexicalOrTaken b
-  function a = go (is_statement q.node) a
-    where
-      go : (t : Bool) → Among b (map (cond t (bound_by_declaration s q.node q.path) (bound_identifier bound.OwnName (record { kind = environment.OwnName; maker = q.node.node_id }) [] [])) (names_at role.Id q.node)) → LexicalOrTaken b
-      go true c =
-          let (n, d, i) = among_map (bound_by_declaration s q.node q.path) (names_at role.Id q.node) b c in
-          by_function b (sym (ap (is_bound_as bound.Function) i) ∙ function_sort n)
-      go false c =
-          let (n, d, i) = among_map (bound_identifier bound.OwnName (record { kind = environment.OwnName; maker = q.node.node_id }) [] []) (names_at role.Id q.node) b c in
-          absurd (never (ap (is_bound_as bound.OwnName) i ∙ no_own))
-
-  class : Among b (bound_by_class q.node q.path) → LexicalOrTaken b
-  class a = go (is_statement q.node) a
-    where
-      go : (t : Bool) → Among b (map (cond t (bound_identifier bound.Lexical (innermost (environments q.node q.path)) (record { kind = environment.Class; maker = q.node.node_id } ∷ []) []) (bound_identifier bound.OwnName (record { kind = environment.Class; maker = q.node.node_id }) [] [])) (names_at role.Id q.node)) → LexicalOrTaken b
-      go true c =
-          let (n, d, i) = among_map (bound_identifier bound.Lexical (innermost (environments q.node q.path)) (record { kind = environment.Class; maker = q.node.node_id } ∷ []) []) (names_at role.Id q.node) b c in
-          by_lexical b (sym (ap (is_bound_as bound.Lexical) i))
-      go false c =
-          let (n, d, i) = among_map (bound_identifier bound.OwnName (record { kind = environment.Class; maker = q.node.node_id }) [] []) (names_at role.Id q.node) b c in
-          absurd (never (ap (is_bound_as bound.OwnName) i ∙ no_own))
-
-  parameter : is_parameter q.node.kind ≡ true → Among b (map (bound_here bound.Parameter (environments q.node q.path)) (bound_names q.node)) → LexicalOrTaken b
-  parameter k a =
-      let (n, c, i) = among_map (bound_here bound.Parameter (environments q.node q.path)) (bound_names q.node) b a in
-      inr (inl (subst (λ z. takes_variables z ≡ true) (ap (λ z. z.environment) i) (parameter_takes q.node q.path k f rooted)))
-
-  catch : (patterns : List Node) → Among b (flat_map (bound_by_catch (environments q.node q.path)) patterns) → LexicalOrTaken b
-  catch patterns a =
-      let (n, c, d) = among_flat (bound_by_catch (environments q.node q.path)) patterns b a in
-      go (is kind.BindingIdentifier n) n d
-    where
-      go : (t : Bool) (n : Node) → Among b (map (bound_here (cond t bound.CatchName bound.Lexical) (environments q.node q.path)) (bound_names n)) → LexicalOrTaken b
-      go true n c =
-          let (m, d, i) = among_map (bound_here bound.CatchName (environments q.node q.path)) (bound_names n) b c in
-          inr (inr (sym (ap (is_bound_as bound.CatchName) i)))
-      go false n c = lexical_names (environments q.node q.path) (bound_names n) c
-
-  lexical_or_taken : (k : AstType) → q.node.kind ≡ k → Among b (bound_by_node k s q.node q.path) → LexicalOrTaken b
-  lexical_or_taken kind.VariableDeclarator w a = declarator q.path refl a
-  lexical_or_taken kind.Function w a = function a
-  lexical_or_taken kind.Class w a = class a
-  lexical_or_taken kind.FormalParameter w a = parameter (ap is_parameter w) a
-  lexical_or_taken kind.FormalParameterRest w a = parameter (ap is_parameter w) a
-  lexical_or_taken kind.CatchParameter w a = catch (children_of role.Pattern q.node.children) a
-  lexical_or_taken kind.ImportSpecifier w a = lexical_names (environments q.node q.path) (names_at role.Local q.node) a
-  lexical_or_taken kind.ImportDefaultSpecifier w a = lexical_names (environments q.node q.path) (names_at role.Local q.node) a
-  lexical_or_taken kind.ImportNamespaceSpecifier w a = lexical_names (environments q.node q.path) (names_at role.Local q.node) a
-  lexical_or_taken _ w a = absurd a
-
-among_written : (s : SourceType) (b : Bound) (q : Place) (ss : List Step) → Among (entering q) ss → Among b (bound_by_node q.node.kind s q.node q.path) → Among b (written s ss)
-among_written s b q [] i j = absurd i
-among_written s b q (y ∷ ss) (inl i) j = among_left b (bound_at s y) (written s ss) (subst (λ z. Among b (bound_at s z)) (sym i) j)
-among_written s b q (y ∷ ss) (inr i) j = among_right b (bound_at s y) (written s ss) (among_written s b q ss i j)
-
 -- ---- clashes
 
 any_of : {A : Type 0} → (g : A → Bool) (xs : List A) (y : A) → Among y xs → g y ≡ true → list_any g xs ≡ true
@@ -388,9 +139,12 @@ no_function b k h n = elim (cases_Bool (is_bound_as bound.Function b)) [
   | inl q ↦ (let s : b.sort ≡ bound.Function = same_true the_ways tt b.sort bound.Function q in absurd (never (sym h ∙ subst (λ w. is_bound_as k (record b { sort = w }) ≡ false) (sym s) n)))
 ]
 
-module _ (p : Tree) (h : first_fault p ≡ None) (e : is_ecmascript p ≡ true) (numbered : IsNumbered p.root) (x : Name) (none : IsBoundOutsideWith p x) (plain_name : IsPlainName p x) (no_clash : has_clash p x ≡ false) where
+module _ (p : Tree) (h : first_fault p ≡ None) (e : is_ecmascript p ≡ true) (numbered : IsNumbered p.root) (x : Name) (plain_name : IsPlainName p x) (no_clash : has_clash p x ≡ false) where
   abbrev ws : List Bound
-  ws = written p.source_type (steps p)
+  ws = settled_bounds p
+
+  abbrev written_bounds : List Bound
+  written_bounds = written p.source_type (steps p)
 
   abbrev bs : List Bound
   bs = bound_of p
@@ -398,10 +152,10 @@ module _ (p : Tree) (h : first_fault p ≡ None) (e : is_ecmascript p ≡ true) 
   abbrev ds : List Declaration
   ds = declarations (events (steps p))
 
-  clash : (b c : Bound) → Among b ws → Among c ws → b.name ≡ x → c.name ≡ x → is_bound_as bound.Var b ≡ true → is_declared_plainly c ≡ true → is_lexical_in c.environment c ≡ true → Among c.environment b.passed → ⊥
+  clash : (b c : Bound) → Among b written_bounds → Among c written_bounds → b.name ≡ x → c.name ≡ x → is_bound_as bound.Var b ≡ true → is_declared_plainly c ≡ true → is_lexical_in c.environment c ≡ true → Among c.environment b.passed → ⊥
   clash b c i j n m var plainly lexical a =
-      let there : Among b bs = subst (λ z. Among z bs) (unmoved_variable ws b (no_function b bound.Var var refl)) (of_map (moved_by ws) ws b i) in
-      let other : Among c bs = subst (λ z. Among z bs) (unmoved_plain ws c plainly) (of_map (moved_by ws) ws c j) in
+      let there : Among b bs = subst (λ z. Among z bs) (unmoved_variable written_bounds b (no_function b bound.Var var refl)) (of_map (moved_by written_bounds) written_bounds b i) in
+      let other : Among c bs = subst (λ z. Among z bs) (unmoved_plain written_bounds c plainly) (of_map (moved_by written_bounds) written_bounds c j) in
       let same : bytes_eq c.name b.name ≡ true = elim (name_tells c.name b.name) [ inl k ↦ k.0 | inr k ↦ absurd (k.1 (m ∙ sym n)) ] in
       let named : bytes_eq b.name x ≡ true = elim (name_tells b.name x) [ inl k ↦ k.0 | inr k ↦ absurd (k.1 n) ] in
       let meets : meets_lexical b c ≡ true = rw (same, any_of (λ z. is_lexical_in z c) (b.passed ++ b.environment ∷ []) c.environment (among_left c.environment b.passed (b.environment ∷ []) a) lexical) refl in
@@ -413,23 +167,24 @@ module _ (p : Tree) (h : first_fault p ≡ None) (e : is_ecmascript p ≡ true) 
     bind : Bound
     among : Among bind ws
     named : bind.name ≡ x
-    known : KnownBound p h e numbered x none plain_name bind
+    known : KnownBound p h e numbered x plain_name bind
     same : known.declares.declaration ≡ d
 
   -- or by the expression that has it as its own name
   record IsOwned (d : Declaration) : Type 0 where
     bind : Bound
+    named : bind.name ≡ x
     owned : OwnBound p h x bind
     same : owned.declaration ≡ d
 
   explained : (d : Declaration) → Among d ds → d.naming.name ≡ x → IsExplained d ⊎ IsOwned d
   explained d a n =
-      let (b, i, m, j) = each_identifier p.source_type x (λ k. (b : Bound) × Among b ws × (b.name ≡ x) × (b.identifier ≡ k)) p h e (λ b i m. (b, i, m, refl)) d a n in
-      go b i m j (any_bound p h e numbered x none plain_name b i m)
+      let (b, i, m, j) = each_identifier p.source_type x (λ k. (b : Bound) × Among b ws × (b.name ≡ x) × (b.identifier ≡ k)) p h e (λ b i m. (settled b, settled_among p b i, settled_name b ∙ m, settled_identifier b)) d a n in
+      go b i m j (any_bound p h e numbered x plain_name b i m)
     where
-      go : (b : Bound) → Among b ws → b.name ≡ x → b.identifier ≡ identifier_of d → AnyBound p h e numbered x none plain_name b → IsExplained d ⊎ IsOwned d
+      go : (b : Bound) → Among b ws → b.name ≡ x → b.identifier ≡ identifier_of d → AnyBound p h e numbered x plain_name b → IsExplained d ⊎ IsOwned d
       go b i m j (inl k) = inl (record { bind = b; among = i; named = m; known = k; same = same_declaration k.declares.declaration d ds k.declares.among a (k.declares.identifier ∙ j) (declared_once p (identifier_of k.declares.declaration) h numbered) })
-      go b i m j (inr o) = inr (record { bind = b; owned = o; same = same_declaration o.declaration d ds o.among a (o.identifier ∙ j) (declared_once p (identifier_of o.declaration) h numbered) })
+      go b i m j (inr o) = inr (record { bind = b; named = m; owned = o; same = same_declaration o.declaration d ds o.among a (o.identifier ∙ j) (declared_once p (identifier_of o.declaration) h numbered) })
 
   familiar_at : (q : Place) → Among (entering q) (steps p) → IsFamiliar (node_at p) q
   familiar_at q a = each_at (FamiliarAt (node_at p)) (steps p) (entering q) (familiar_program p h e numbered) a
@@ -448,18 +203,18 @@ module _ (p : Tree) (h : first_fault p ≡ None) (e : is_ecmascript p ≡ true) 
   opened_among (z ∷ chain) s k (inr a) = opened_among chain s k.1 a
 
   -- so does the one whose scope it passes
-  passes_it : (d : Declaration) (v : IsExplained d) → v.known.declares.declaration.how ≡ hoisted → (n : ℕ) → contains (map (λ s. s.number) v.known.declares.declaration.route.passed) n ≡ true
-      → (b : Bound) (k : IsDeclared p h e numbered x none plain_name b) → IsMade p h e numbered x none plain_name b → k.declaration.route.target.number ≡ n → Passes v.bind b
-  passes_it d v how n i b k m t =
+  passes_it : (d : Declaration) (v : IsExplained d) → StaysThere p h e numbered x v.bind v.known.declares → v.known.declares.declaration.how ≡ hoisted → (n : ℕ) → contains (map (λ s. s.number) v.known.declares.declaration.route.passed) n ≡ true
+      → (b : Bound) (k : IsDeclared p h e numbered x plain_name b) → IsMade p h e numbered x plain_name b → k.declaration.route.target.number ≡ n → Passes v.bind b
+  passes_it d v stays how n i b k m t =
       let q : Place = v.known.declares.place in
       let there : Among (entering q) (steps p) = v.known.declares.entered in
       let variable : IsVariable q v.known.declares.declaration = hoisted_is q v.known.declares.declaration v.known.declares.told how in
       let kind_of : q.node.kind ≡ kind.VariableDeclarator = declared_at (λ z. z.how ≡ hoisted → q.node.kind ≡ kind.VariableDeclarator) (declared_on_entering q) v.known.declares.declaration (hoisted_kind q) v.known.declares.told how in
-      let binds : (is_bound_as bound.Var v.bind ≡ true) × (v.bind.passed ≡ passed (environments q.node q.path)) = variable_bound p.source_type q v.known.declares.declaration variable v.bind kind_of v.known.declares.binds in
+      let binds : (is_bound_as bound.Var v.bind ≡ true) × (v.bind.passed ≡ passed (environments q.node q.path)) = variable_bound p.source_type q v.known.declares.declaration variable v.bind kind_of stays.binds in
       let (s, at, number) = scope_of_number v.known.declares.declaration.route.passed n i in
       let before : Among s (passed_before is_var q.chain) = route_passes q.chain s (subst (λ r. Among s r.passed) variable.route at) in
       let known : IsKnown q = each_at KnownAt (steps p) (entering q) (known_program p h e) there in
-      let round : map maker_of_scope q.chain ≡ makers (environments q.node q.path) = known.round (none q there v.bind v.known.declares.binds v.named) in
+      let round : map maker_of_scope q.chain ≡ makers (environments q.node q.path) = known.round in
       let passing : IsPassed (environments q.node q.path) s = passes_scope q.chain q.node q.path s round before in
       let takes : (takes_variables passing.passes ≡ false) × Among passing.passes (environments q.node q.path) = passed_takes_none (environments q.node q.path) passing.passes passing.among in
       let opened : AllOpened (openers (steps p)) q.chain = each_at (IsPlaceOpened (openers (steps p))) (steps p) (entering q) (places_opened p) there in
@@ -480,27 +235,58 @@ module _ (p : Tree) (h : first_fault p ≡ None) (e : is_ecmascript p ≡ true) 
         no_class = ap (is_made_for environment.Class) same ∙ passes_no_class q.node q.path loose (ap is_loose kind_of) passing.passes passing.among;
       }
 
+  -- what is hoisted stays where it is written
+  hoisted_stays : (d : Declaration) (v : IsExplained d) → v.known.declares.declaration.how ≡ hoisted → StaysThere p h e numbered x v.bind v.known.declares
+  hoisted_stays d v how = elim v.known.origin [
+    | inl stays ↦ stays
+    | inr left ↦ absurd (go (left_how left))
+  ]
+    where
+      left_how : (left : LeavesThere p h e numbered x plain_name v.bind v.known.declares) → (v.known.declares.declaration.how ≡ moved) ⊎ (v.known.declares.declaration.how ≡ plain)
+      left_how left = elim left.left.how [
+        | inl w ↦ inl (ap (λ z. z.how) left.declares ∙ w.0)
+        | inr w ↦ inr (ap (λ z. z.how) left.declares ∙ w)
+      ]
+
+      moved_is_not : moved ≡ hoisted → ⊥
+      moved_is_not z = absurd cc
+
+      plain_is_not : plain ≡ hoisted → ⊥
+      plain_is_not z = absurd cc
+
+      go : (v.known.declares.declaration.how ≡ moved) ⊎ (v.known.declares.declaration.how ≡ plain) → ⊥
+      go (inl w) = moved_is_not (sym w ∙ how)
+      go (inr w) = plain_is_not (sym w ∙ how)
+
+  -- what stays where it is written is written so
+  staying_written : (b : Bound) (d : DeclarationOf p h e numbered x b) → StaysThere p h e numbered x b d → Among b written_bounds
+  staying_written b d stays = among_written p.source_type b d.place (steps p) d.entered stays.binds
+
   -- a `var` passes no scope that binds the name
   passes_none : (d c : Declaration) (v : IsExplained d) (w : IsExplained c) → v.known.declares.declaration.how ≡ hoisted → (n : ℕ) → contains (map (λ s. s.number) v.known.declares.declaration.route.passed) n ≡ true → w.known.declares.declaration.route.target.number ≡ n → ⊥
   passes_none d c v w how n i t =
-      let any : AnyBound p h e numbered x none plain_name w.bind = inl w.known in
-      let passing : Passes v.bind w.bind = passes_it d v how n i w.bind (is_declared p h e numbered x none plain_name w.bind any) (is_made p h e numbered x none plain_name w.bind any) (ap (λ z. z.route.target.number) (declared_known p h e numbered x none plain_name w.bind w.known) ∙ t) in
+      let any : AnyBound p h e numbered x plain_name w.bind = inl w.known in
+      let here : StaysThere p h e numbered x v.bind v.known.declares = hoisted_stays d v how in
+      let passing : Passes v.bind w.bind = passes_it d v here how n i w.bind (is_declared p h e numbered x plain_name w.bind any) (is_made p h e numbered x plain_name w.bind any) (ap (λ z. z.route.target.number) (declared_known p h e numbered x plain_name w.bind w.known) ∙ t) in
       let r : Place = w.known.declares.place in
       let familiar : IsFamiliar (node_at p) r = familiar_at r w.known.declares.entered in
-      elim (lexical_or_taken p.source_type r familiar.parents familiar.rooted w.bind w.known.no_own r.node.kind refl w.known.declares.binds) [
-        | inl lexical ↦ clash v.bind w.bind v.among w.among v.named w.named passing.var w.known.plainly lexical passing.among
-        | inr other ↦ elim other [
-          | inl taken ↦ never (sym taken ∙ passing.takes_none)
-          | inr named ↦ plain_name.unpassed w.bind v.bind w.among v.among w.named v.named named passing.var passing.among
+      elim w.known.origin [
+        | inr left ↦ never (sym (taking_takes (environments r.node r.path) w.bind.environment left.taking) ∙ passing.takes_none)
+        | inl stays ↦ elim (lexical_or_taken p.source_type r familiar.parents familiar.rooted w.bind w.known.no_own r.node.kind refl stays.binds) [
+          | inl lexical ↦ clash v.bind w.bind (staying_written v.bind v.known.declares here) (staying_written w.bind w.known.declares stays) v.named w.named passing.var w.known.plainly lexical passing.among
+          | inr other ↦ elim other [
+            | inl taken ↦ never (sym taken ∙ passing.takes_none)
+            | inr named ↦ plain_name.unpassed w.bind v.bind (staying_written w.bind w.known.declares stays) (staying_written v.bind v.known.declares here) w.named v.named named passing.var passing.among
+          ]
         ]
       ]
 
   -- nor that of an expression with that name
   passes_no_own : (d : Declaration) (v : IsExplained d) → v.known.declares.declaration.how ≡ hoisted → (n : ℕ) → contains (map (λ s. s.number) v.known.declares.declaration.route.passed) n ≡ true → (b : Bound) (o : OwnBound p h x b) → o.declaration.route.target.number ≡ n → ⊥
   passes_no_own d v how n i b o t =
-      let any : AnyBound p h e numbered x none plain_name b = inr o in
-      let passing : Passes v.bind b = passes_it d v how n i b (is_declared p h e numbered x none plain_name b any) (is_made p h e numbered x none plain_name b any) (ap (λ z. z.route.target.number) (declared_own p h e numbered x none plain_name b o) ∙ t) in
-      own_kind p h e numbered x none plain_name b o (unnamed b.environment passing.scoped) passing.no_class
+      let any : AnyBound p h e numbered x plain_name b = inr o in
+      let passing : Passes v.bind b = passes_it d v (hoisted_stays d v how) how n i b (is_declared p h e numbered x plain_name b any) (is_made p h e numbered x plain_name b any) (ap (λ z. z.route.target.number) (declared_own p h e numbered x plain_name b o) ∙ t) in
+      own_kind p h e numbered x plain_name b o (unnamed b.environment passing.scoped) passing.no_class
     where
       unnamed : (c : Environment) → has_scope c ≡ true → is_made_for environment.OwnName c ≡ false
       unnamed c k = elim (cases_Bool (is_made_for environment.OwnName c)) [
@@ -516,7 +302,7 @@ module _ (p : Tree) (h : first_fault p ≡ None) (e : is_ecmascript p ≡ true) 
   -- a catch name of the place binds in the clause's environment
   record IsCaught (q : Place) : Type 0 where
     bind : Bound
-    among : Among bind ws
+    among : Among bind written_bounds
     named : bind.name ≡ x
     caught : is_bound_as bound.CatchName bind ≡ true
     of_parameter : q.node.kind ≡ kind.CatchParameter
@@ -535,24 +321,46 @@ module _ (p : Tree) (h : first_fault p ≡ None) (e : is_ecmascript p ≡ true) 
           let known : AllKnown (node_at p) (y ∷ l) = subst (AllKnown (node_at p)) w (familiar_at q a).path in
           (y, known.0, clause, ap (λ r. (innermost (environments q.node r)).maker) w ∙ ap (λ i. (innermost (made_by i y q.node ++ environments y l)).maker) clause)
 
+  -- a function that leaves its block is bound in no clause
+  leaves_no_clause : (c : Declaration) (w : IsExplained c) → LeavesThere p h e numbered x plain_name w.bind w.known.declares → (y : Node) → node_at p y.node_id ≡ Some y → y.kind ≡ kind.CatchClause → w.bind.environment.maker ≡ y.node_id → ⊥
+  leaves_no_clause c w left y found clause maker =
+      let r : Place = w.known.declares.place in
+      let same : w.known.placed.maker ≡ y = some_is w.known.placed.maker y (sym w.known.placed.found ∙ ap (node_at p) maker ∙ found) in
+      let kinds : w.bind.environment.kind ≡ environment.Catch = environment_kind_is w.bind.environment.kind environment.Catch (subst (λ i. may_make i w.bind.environment.kind ≡ true) (ap (λ z. z.kind) same ∙ clause) w.known.placed.makes) in
+      never (sym (taking_takes (environments r.node r.path) w.bind.environment left.taking) ∙ ap (λ z. takes_variables (record { kind = z; maker = w.bind.environment.maker })) kinds)
+
+  -- what is caught stays where it is written
+  caught_stays : (d : Declaration) (v : IsExplained d) → v.known.declares.declaration.how ≡ caught → StaysThere p h e numbered x v.bind v.known.declares
+  caught_stays d v how = elim v.known.origin [
+    | inl stays ↦ stays
+    | inr left ↦ absurd (elim left.left.how [
+      | inl w ↦ moved_never (sym w.0 ∙ ap (λ z. z.how) (sym left.declares) ∙ how)
+      | inr w ↦ plain_never (sym w ∙ ap (λ z. z.how) (sym left.declares) ∙ how)
+    ])
+  ]
+
   -- the scope where it is declared has no other declaration of the name, and is no clause's body
-  caught_apart : (d c : Declaration) (v : IsExplained d) (w : IsExplained c) → (identifier_of d ≡ identifier_of c → ⊥) → IsCaught v.known.declares.place → IsBoundIn w.known.declares.declaration v.known.declares.declaration.route.target.number → ⊥
-  caught_apart d c v w differs k (inl number) =
+  caught_apart : (d c : Declaration) (v : IsExplained d) (w : IsExplained c) → StaysThere p h e numbered x v.bind v.known.declares → (identifier_of d ≡ identifier_of c → ⊥) → IsCaught v.known.declares.place → IsBoundIn w.known.declares.declaration v.known.declares.declaration.route.target.number → ⊥
+  caught_apart d c v w here differs k (inl number) =
       let q : Place = v.known.declares.place in
-      let binds : Among v.bind (bound_by_node kind.CatchParameter p.source_type q.node q.path) = subst (λ i. Among v.bind (bound_by_node i p.source_type q.node q.path)) k.of_parameter v.known.declares.binds in
+      let (y, found, clause, of_clause) = clause_of q v.known.declares.entered k.of_parameter in
+      let binds : Among v.bind (bound_by_node kind.CatchParameter p.source_type q.node q.path) = subst (λ i. Among v.bind (bound_by_node i p.source_type q.node q.path)) k.of_parameter here.binds in
       let environment_is : v.bind.environment ≡ k.bind.environment = catch_environment p.source_type q.node q.path v.bind binds ∙ sym k.here in
       let openers_are : Some w.known.declares.declaration.route.target.opener ≡ Some v.known.declares.declaration.route.target.opener = sym w.known.declares.opened ∙ ap (slice_get (openers (steps p))) number ∙ v.known.declares.opened in
       let maker : w.bind.environment.maker ≡ k.bind.environment.maker =
       sym w.known.declares.maker ∙ some_is w.known.declares.declaration.route.target.opener v.known.declares.declaration.route.target.opener openers_are ∙ v.known.declares.maker ∙ ap (λ z. z.maker) environment_is in
-      let first : v.bind.identifier ≡ k.bind.identifier = caught_once p h e numbered x none k.bind v.bind k.among v.among k.named v.named k.caught (ap (λ z. z.maker) environment_is) in
-      let second : w.bind.identifier ≡ k.bind.identifier = caught_once p h e numbered x none k.bind w.bind k.among w.among k.named w.named k.caught maker in
+      let first : v.bind.identifier ≡ k.bind.identifier = caught_once p h e numbered x k.bind v.bind k.among (staying_written v.bind v.known.declares here) k.named v.named k.caught (ap (λ z. z.maker) environment_is) in
+      let second : w.bind.identifier ≡ k.bind.identifier = elim w.known.origin [
+        | inl stays ↦ caught_once p h e numbered x k.bind w.bind k.among (staying_written w.bind w.known.declares stays) k.named w.named k.caught maker
+        | inr left ↦ absurd (leaves_no_clause c w left y found clause (maker ∙ ap (λ z. z.maker) k.here ∙ of_clause))
+      ] in
       differs (ap identifier_of (sym v.same) ∙ v.known.declares.identifier ∙ first ∙ sym second ∙ sym w.known.declares.identifier ∙ ap identifier_of w.same)
-  caught_apart d c v w differs k (inr body) =
+  caught_apart d c v w here differs k (inr body) =
       let q : Place = v.known.declares.place in
       let (y, found, clause, maker) = clause_of q v.known.declares.entered k.of_parameter in
-      let binds : Among v.bind (bound_by_node kind.CatchParameter p.source_type q.node q.path) = subst (λ i. Among v.bind (bound_by_node i p.source_type q.node q.path)) k.of_parameter v.known.declares.binds in
+      let binds : Among v.bind (bound_by_node kind.CatchParameter p.source_type q.node q.path) = subst (λ i. Among v.bind (bound_by_node i p.source_type q.node q.path)) k.of_parameter here.binds in
       let n : ℕ = v.known.declares.declaration.route.target.number in
-      let t : IsTakenBy p w.bind n = taken_by p h e numbered x none plain_name w.bind (inl w.known) n (ap (λ z. z.route.target.body) (declared_known p h e numbered x none plain_name w.bind w.known) ∙ body) in
+      let t : IsTakenBy p w.bind n = taken_by p h e numbered x plain_name w.bind (inl w.known) n (ap (λ z. z.route.target.body) (declared_known p h e numbered x plain_name w.bind w.known) ∙ body) in
       let opener : v.known.declares.declaration.route.target.opener ≡ y.node_id = v.known.declares.maker ∙ ap (λ z. z.maker) (catch_environment p.source_type q.node q.path v.bind binds) ∙ maker in
       let node : t.place.node.node_id ≡ y.node_id = some_is t.place.node.node_id y.node_id (sym t.opened ∙ v.known.declares.opened ∙ ap Some opener) in
       let same : t.place.node ≡ y = some_is t.place.node y (sym (familiar_at t.place t.entered).node ∙ ap (node_at p) node ∙ found) in
@@ -575,7 +383,7 @@ module _ (p : Tree) (h : first_fault p ≡ None) (e : is_ecmascript p ≡ true) 
       either i a n false k = k
       either i a n true k =
           let parameter : q.node.kind ≡ kind.CatchParameter = catch_kind p.source_type q.node q.path i k q.node.kind a in
-          absurd (caught_apart d c v w differs (record {
+          absurd (caught_apart d c v w (caught_stays d v how) differs (record {
             bind = i;
             among = among_written p.source_type i q (steps p) v.known.declares.entered a;
             named = n;
@@ -592,8 +400,160 @@ module _ (p : Tree) (h : first_fault p ≡ None) (e : is_ecmascript p ≡ true) 
       let q : Place = v.known.declares.place in
       let variable : IsVariable q v.known.declares.declaration = hoisted_is q v.known.declares.declaration v.known.declares.told how in
       let passes : contains (map (λ s. s.number) (outward_to is_var q.chain).passed) n ≡ true = subst (λ r. contains (map (λ s. s.number) r.passed) n ≡ true) variable.route i in
-      let further : contains (map (λ s. s.number) (outward_to is_var q.chain).passed) w.known.declares.declaration.route.target.number ≡ true = clause_passed p h e numbered x none plain_name w.bind w.known n t q v.known.declares.entered passes in
+      let further : contains (map (λ s. s.number) (outward_to is_var q.chain).passed) w.known.declares.declaration.route.target.number ≡ true = clause_passed p h e numbered x plain_name w.bind w.known n t q v.known.declares.entered passes in
       passes_none d c v w how w.known.declares.declaration.route.target.number (subst (λ r. contains (map (λ s. s.number) r.passed) w.known.declares.declaration.route.target.number ≡ true) (sym variable.route) further) refl
+
+  -- a function that leaves its block goes along no scope of another's
+  record GoesAlong (c : Declaration) : Type 0 where
+    bind : Bound
+    among : Among bind written_bounds
+    named : bind.name ≡ x
+    identifier : identifier_of c ≡ bind.identifier
+    on_way : IsRouteOnWay p h e numbered x bind c
+
+  goes_along : (c : Declaration) (w : IsExplained c) → GoesAlong w.known.declares.declaration
+  goes_along c w = elim w.known.origin [
+    | inl stays ↦ (let a : Among w.bind written_bounds = staying_written w.bind w.known.declares stays in
+        record { bind = w.bind; among = a; named = w.named; identifier = w.known.declares.identifier; on_way = plain_on_way p h e numbered x w.bind a w.named w.known.placed w.known.declares stays })
+    | inr left ↦ record {
+      bind = left.source;
+      among = left.among;
+      named = left.named;
+      identifier = w.known.declares.identifier ∙ ap (λ z. z.identifier) (sym left.is) ∙ settled_identifier left.source;
+      on_way = subst (IsRouteOnWay p h e numbered x left.source) (sym left.declares) (left_on_way p h e numbered x w.known.declares.place w.known.declares.entered left.source left.left);
+    }
+  ]
+
+  goes_own : (c : Declaration) (w : IsOwned c) → GoesAlong w.owned.declaration
+  goes_own c w = record {
+    bind = w.bind;
+    among = among_written p.source_type w.bind w.owned.place (steps p) w.owned.entered w.owned.binds;
+    named = w.named;
+    identifier = w.owned.identifier;
+    on_way = own_on_way p h e numbered x w.bind w.owned;
+  }
+
+  -- a scope of a route, or what takes its target over
+  on_path : (d : Declaration) (n : ℕ) → contains (path d) n ≡ true → (contains (map (λ s. s.number) d.route.passed) n ≡ true) ⊎ ((d.route.target.number ≡ n) ⊎ (d.route.target.body ≡ Some n))
+  on_path d n i = elim (either_contains (map (λ s. s.number) d.route.passed) (d.route.target.number ∷ body_list d.route.target.body) i) [
+    | inl w ↦ inl w
+    | inr w ↦ inr (at_target d.route.target.number d.route.target.body w)
+  ]
+    where
+      either_contains : (xs ys : List ℕ) → contains (xs ++ ys) n ≡ true → (contains xs n ≡ true) ⊎ (contains ys n ≡ true)
+      either_contains [] ys w = inr w
+      either_contains (y ∷ xs) ys w = elim (eqb_tells y n) [
+        | inl k ↦ inl (rw k.0 refl)
+        | inr k ↦ elim (either_contains xs ys (rw k.0 at w)) [ inl v ↦ inl (rw k.0 v) | inr v ↦ inr v ]
+      ]
+
+      at_target : (m : ℕ) (o : Option ℕ) → contains (m ∷ body_list o) n ≡ true → (m ≡ n) ⊎ (o ≡ Some n)
+      at_target m None w = elim (eqb_tells m n) [ inl k ↦ inl k.1 | inr k ↦ (let v : false ≡ true = rw k.0 at w in absurd (never (sym v))) ]
+      at_target m (Some b) w = elim (eqb_tells m n) [
+        | inl k ↦ inl k.1
+        | inr k ↦ elim (eqb_tells b n) [ inl j ↦ inr (ap Some j.1) | inr j ↦ (let v : false ≡ true = rw (k.0, j.0) at w in absurd (never (sym v))) ]
+      ]
+
+  along : (c : Declaration) (b : Bound) → IsRouteOnWay p h e numbered x b c → (n : ℕ) → contains (map (λ s. s.number) c.route.passed) n ≡ true → IsOnWay p h e numbered x b n
+  along c b r n i = let (s, at, number) = scope_of_number c.route.passed n i in subst (IsOnWay p h e numbered x b) number (r.passed s at)
+
+  module _ (d : Declaration) (v : IsExplained d) (left : LeavesThere p h e numbered x plain_name v.bind v.known.declares) where
+    abbrev moving : Declaration
+    moving = v.known.declares.declaration
+
+    abbrev from_there : Place
+    from_there = v.known.declares.place
+
+    mine : IsRouteOnWay p h e numbered x left.source moving
+    mine = subst (IsRouteOnWay p h e numbered x left.source) (sym left.declares) (left_on_way p h e numbered x from_there v.known.declares.entered left.source left.left)
+
+    not_caught : is_made_for environment.Catch v.bind.environment ≡ false
+    not_caught = elim (cases_Bool (is_made_for environment.Catch v.bind.environment)) [
+      | inr w ↦ w
+      | inl w ↦ absurd (never (sym (taking_takes (environments from_there.node from_there.path) v.bind.environment left.taking) ∙ ap (λ z. takes_variables (record { kind = z; maker = v.bind.environment.maker })) (environment_kind_is v.bind.environment.kind environment.Catch w)))
+    ]
+
+    -- what shares a scope with it is bound by the same
+    meets_itself : (c : Declaration) (w : GoesAlong c) (n : ℕ) → IsOnWay p h e numbered x left.source n → IsOnWay p h e numbered x w.bind n → identifier_of moving ≡ identifier_of c
+    meets_itself c w n i j =
+        let one : w.bind ≡ left.source = left.alone w.bind w.among (w.named ∙ sym left.named) i.passes j.passes i.among j.among (some_is i.passes.maker j.passes.maker (sym i.opened ∙ j.opened), i.no_body ∙ sym j.no_body) in
+        ap identifier_of left.declares ∙ left.left.identifier ∙ ap (λ z. z.identifier) (sym one) ∙ sym w.identifier
+
+    on_route : (n : ℕ) → contains (path moving) n ≡ true → (contains (map (λ s. s.number) moving.route.passed) n ≡ true) ⊎ (moving.route.target.number ≡ n)
+    on_route n i = elim (on_path moving n i) [
+      | inl w ↦ inl w
+      | inr w ↦ elim w [
+        | inl j ↦ inr j
+        | inr j ↦ absurd (nowhere n (sym (bodiless p h e numbered x plain_name v.bind v.known not_caught) ∙ j))
+      ]
+    ]
+
+    my_way : (n : ℕ) → (contains (map (λ s. s.number) moving.route.passed) n ≡ true) ⊎ (moving.route.target.number ≡ n) → IsOnWay p h e numbered x left.source n
+    my_way n (inl i) = along moving left.source mine n i
+    my_way n (inr i) = subst (IsOnWay p h e numbered x left.source) i mine.target
+
+    -- the scopes that it passes are those that a `var` passes there
+    passes_as_variable : (n : ℕ) → contains (map (λ s. s.number) moving.route.passed) n ≡ true → contains (map (λ s. s.number) (outward_to is_var from_there.chain).passed) n ≡ true
+    passes_as_variable n i =
+        let passes : moving.route.passed ≡ passed_before is_var from_there.chain = ap (λ z. z.route.passed) left.declares ∙ left.left.passes in
+        let route : (outward_to is_var from_there.chain).passed ≡ passed_before is_var from_there.chain = ap (λ o. (route_from from_there.chain (passed_before is_var from_there.chain) o).passed) left.left.target in
+        subst (λ ss. contains (map (λ s. s.number) ss) n ≡ true) (passes ∙ sym route) i
+
+    passes_as_function : (n : ℕ) → contains (map (λ s. s.number) (outward_to is_var from_there.chain).passed) n ≡ true → contains (map (λ s. s.number) moving.route.passed) n ≡ true
+    passes_as_function n i =
+        let passes : moving.route.passed ≡ passed_before is_var from_there.chain = ap (λ z. z.route.passed) left.declares ∙ left.left.passes in
+        let route : (outward_to is_var from_there.chain).passed ≡ passed_before is_var from_there.chain = ap (λ o. (route_from from_there.chain (passed_before is_var from_there.chain) o).passed) left.left.target in
+        subst (λ ss. contains (map (λ s. s.number) ss) n ≡ true) (route ∙ sym passes) i
+
+    -- its target is no block of a clause
+    no_taker : (b : Bound) → IsTakenBy p b moving.route.target.number → ⊥
+    no_taker b t =
+        let opener : v.bind.environment.maker ≡ t.place.node.node_id = sym v.known.declares.maker ∙ some_is moving.route.target.opener t.place.node.node_id (sym v.known.declares.opened ∙ t.opened) in
+        let same : v.known.placed.maker ≡ t.place.node = some_is v.known.placed.maker t.place.node (sym v.known.placed.found ∙ ap (node_at p) opener ∙ (familiar_at t.place t.entered).node) in
+        let kinds : v.bind.environment.kind ≡ environment.Block = environment_kind_is v.bind.environment.kind environment.Block (subst (λ i. may_make i v.bind.environment.kind ≡ true) (ap (λ z. z.kind) same ∙ body_kind t.place t.is_body) v.known.placed.makes) in
+        never (sym (taking_takes (environments from_there.node from_there.path) v.bind.environment left.taking) ∙ ap (λ z. takes_variables (record { kind = z; maker = v.bind.environment.maker })) kinds)
+
+    meets_none : (c : Declaration) (w : IsExplained c) → Meets moving w.known.declares.declaration → identifier_of moving ≡ identifier_of w.known.declares.declaration
+    meets_none c w m =
+        let g : GoesAlong w.known.declares.declaration = goes_along c w in
+        let here : (contains (map (λ s. s.number) moving.route.passed) m.shared ≡ true) ⊎ (moving.route.target.number ≡ m.shared) = on_route m.shared m.on_left in
+        elim (on_path w.known.declares.declaration m.shared m.on_right) [
+          | inl j ↦ meets_itself w.known.declares.declaration g m.shared (my_way m.shared here) (along w.known.declares.declaration g.bind g.on_way m.shared j)
+          | inr other ↦ elim other [
+            | inl j ↦ meets_itself w.known.declares.declaration g m.shared (my_way m.shared here) (subst (IsOnWay p h e numbered x g.bind) j g.on_way.target)
+            | inr body ↦ elim here [
+              | inl i ↦ (let further : contains (map (λ s. s.number) (outward_to is_var from_there.chain).passed) w.known.declares.declaration.route.target.number ≡ true =
+                  clause_passed p h e numbered x plain_name w.bind w.known m.shared body from_there v.known.declares.entered (passes_as_variable m.shared i) in
+                  meets_itself w.known.declares.declaration g w.known.declares.declaration.route.target.number (along moving left.source mine w.known.declares.declaration.route.target.number (passes_as_function w.known.declares.declaration.route.target.number further)) g.on_way.target)
+              | inr i ↦ (let t : IsTakenBy p w.bind m.shared = taken_by p h e numbered x plain_name w.bind (inl w.known) m.shared (ap (λ z. z.route.target.body) (declared_known p h e numbered x plain_name w.bind w.known) ∙ body) in
+                  absurd (no_taker w.bind (subst (IsTakenBy p w.bind) (sym i) t)))
+            ]
+          ]
+        ]
+
+    meets_no_own : (c : Declaration) (w : IsOwned c) → Meets moving w.owned.declaration → identifier_of moving ≡ identifier_of w.owned.declaration
+    meets_no_own c w m =
+        let g : GoesAlong w.owned.declaration = goes_own c w in
+        let here : (contains (map (λ s. s.number) moving.route.passed) m.shared ≡ true) ⊎ (moving.route.target.number ≡ m.shared) = on_route m.shared m.on_left in
+        elim (on_path w.owned.declaration m.shared m.on_right) [
+          | inl j ↦ meets_itself w.owned.declaration g m.shared (my_way m.shared here) (along w.owned.declaration g.bind g.on_way m.shared j)
+          | inr other ↦ elim other [
+            | inl j ↦ meets_itself w.owned.declaration g m.shared (my_way m.shared here) (subst (IsOnWay p h e numbered x g.bind) j g.on_way.target)
+            | inr body ↦ absurd (nowhere m.shared (sym (ap (λ s. s.body) w.owned.target ∙ w.owned.bodiless) ∙ body))
+          ]
+        ]
+
+  moves_apart : (d c : Declaration) (v : IsExplained d) (w : IsExplained c) → (identifier_of d ≡ identifier_of c → ⊥) → v.known.declares.declaration.how ≡ moved → Meets v.known.declares.declaration w.known.declares.declaration → ⊥
+  moves_apart d c v w differs how m = elim v.known.origin [
+    | inl stays ↦ stays.unmoved how
+    | inr left ↦ differs (ap identifier_of (sym v.same) ∙ meets_none d v left c w m ∙ ap identifier_of w.same)
+  ]
+
+  moves_from_own : (d c : Declaration) (v : IsExplained d) (w : IsOwned c) → (identifier_of d ≡ identifier_of c → ⊥) → v.known.declares.declaration.how ≡ moved → Meets v.known.declares.declaration w.owned.declaration → ⊥
+  moves_from_own d c v w differs how m = elim v.known.origin [
+    | inl stays ↦ stays.unmoved how
+    | inr left ↦ differs (ap identifier_of (sym v.same) ∙ meets_no_own d v left c w m ∙ ap identifier_of w.same)
+  ]
 
   keeps_clear : (d c : Declaration) → IsExplained d → IsExplained c → (identifier_of d ≡ identifier_of c → ⊥) → KeepsClear d c
   keeps_clear d c v w differs = subst (λ z. KeepsClear z c) v.same (subst (KeepsClear v.known.declares.declaration) w.same (record {
@@ -601,7 +561,7 @@ module _ (p : Tree) (h : first_fault p ≡ None) (e : is_ecmascript p ≡ true) 
       | inl t ↦ passes_none d c v w how n i t
       | inr t ↦ passes_body d c v w how n i t
     ];
-    as_function = λ how m. v.known.declares.unmoved how;
+    as_function = λ how m. moves_apart d c v w differs how m;
     as_catch_name = caught_clear d c v w differs;
   }))
 
@@ -638,7 +598,7 @@ module _ (p : Tree) (h : first_fault p ≡ None) (e : is_ecmascript p ≡ true) 
       in_clause : q.node.kind ≡ kind.CatchParameter → ⊥
       in_clause parameter =
           let (y, found, clause, maker) = clause_of q v.known.declares.entered parameter in
-          let binds : Among v.bind (bound_by_node kind.CatchParameter p.source_type q.node q.path) = subst (λ k. Among v.bind (bound_by_node k p.source_type q.node q.path)) parameter v.known.declares.binds in
+          let binds : Among v.bind (bound_by_node kind.CatchParameter p.source_type q.node q.path) = subst (λ k. Among v.bind (bound_by_node k p.source_type q.node q.path)) parameter (caught_stays d v how).binds in
           let opener : v.known.declares.declaration.route.target.opener ≡ y.node_id = v.known.declares.maker ∙ ap (λ z. z.maker) (catch_environment p.source_type q.node q.path v.bind binds) ∙ maker in
           let own_number : w.owned.scope.number ≡ v.known.declares.declaration.route.target.number = ap (λ z. z.number) (sym w.owned.target) ∙ number in
           let node : w.owned.place.node.node_id ≡ y.node_id = sym w.owned.opener ∙ some_is w.owned.scope.opener v.known.declares.declaration.route.target.opener (sym w.owned.opened ∙ ap (slice_get (openers (steps p))) own_number ∙ v.known.declares.opened) ∙ opener in
@@ -650,13 +610,13 @@ module _ (p : Tree) (h : first_fault p ≡ None) (e : is_ecmascript p ≡ true) 
       either i a true k = absurd (in_clause (catch_kind p.source_type q.node q.path i k q.node.kind a))
 
   -- and nothing passes it: a `var` passes neither a function nor a class
-  keeps_from_own : (d c : Declaration) → IsExplained d → IsOwned c → KeepsClear d c
-  keeps_from_own d c v w = subst (λ z. KeepsClear z c) v.same (subst (KeepsClear v.known.declares.declaration) w.same (record {
+  keeps_from_own : (d c : Declaration) → IsExplained d → IsOwned c → (identifier_of d ≡ identifier_of c → ⊥) → KeepsClear d c
+  keeps_from_own d c v w differs = subst (λ z. KeepsClear z c) v.same (subst (KeepsClear v.known.declares.declaration) w.same (record {
     as_variable = λ how n i b. elim b [
       | inl t ↦ passes_no_own d v how n i w.bind w.owned t
       | inr t ↦ nowhere n (sym (ap (λ s. s.body) w.owned.target ∙ w.owned.bodiless) ∙ t)
     ];
-    as_function = λ how m. v.known.declares.unmoved how;
+    as_function = λ how m. moves_from_own d c v w differs how m;
     as_catch_name = λ how b. elim b [
       | inl t ↦ apart_from_own d c v w how t
       | inr t ↦ nowhere v.known.declares.declaration.route.target.number (sym (ap (λ s. s.body) w.owned.target ∙ w.owned.bodiless) ∙ t)
@@ -665,7 +625,7 @@ module _ (p : Tree) (h : first_fault p ≡ None) (e : is_ecmascript p ≡ true) 
 
   keep_any : (d c : Declaration) → IsExplained d ⊎ IsOwned d → IsExplained c ⊎ IsOwned c → (identifier_of d ≡ identifier_of c → ⊥) → KeepsClear d c
   keep_any d c (inl v) (inl w) differs = keeps_clear d c v w differs
-  keep_any d c (inl v) (inr w) differs = keeps_from_own d c v w
+  keep_any d c (inl v) (inr w) differs = keeps_from_own d c v w differs
   keep_any d c (inr v) w differs = own_keeps d c v
 
   clear_list : (cs : List Declaration) → ((d : Declaration) → Among d cs → Among d ds) → ((i : ℕ) → times i (map identifier_of cs) ≤ 1) → AllKeepClear x cs

@@ -34,17 +34,15 @@ use Rattle.semantic_model.proofs.form.Clauses.{kind_is}
 use Rattle.semantic_model.proofs.form.Shape.{has_form}
 use Rattle.semantic_model.proofs.lists.Growth.{start_is_sound}
 use Rattle.semantic_model.proofs.once.ListedUnder.{name_tells}
-use Rattle.semantic_syntax.specs.Members.{contains}
-use Rattle.walk_model.proofs.headers.Headed.{awaiting_past, AllMatch}
-use Rattle.tangle_model.specs.Surroundings.{in_with_under}
+use Rattle.walk_model.proofs.headers.Headed.{awaiting_past, match_among}
 use Rattle.binding_laws.specs.SeenDeclarations.{is_own_name, stands_before_body, is_before_body, seen_alone, with_declaration, bound_by_all}
 use Rattle.binding_laws.proofs.CutEvents.{IsBefore, Cut, no_end, ended, not_yet}
 use Rattle.binding_laws.proofs.CutSteps.{WillAwait, cut_program}
 use Rattle.binding_laws.proofs.HeaderFold.{IsCutAt, cut_at, header_start}
 use Rattle.binding_laws.proofs.Matched.{IsMatchedStep, AreMatched, program_matched}
 use Rattle.binding_laws.proofs.SymbolsAtNodes.{symbols_are_at_nodes}
-use Rattle.language_ties.specs.AgreeingNames.{IsPlainName, IsBoundOutsideWith}
-use Rattle.language_ties.specs.Bound.{Bound, bound_by_node, is_bound_as, written}
+use Rattle.language_ties.specs.AgreeingNames.{IsPlainName}
+use Rattle.language_ties.specs.Bound.{Bound, bound_by_node, is_bound_as}
 use Rattle.language_ties.specs.EcmaScript.{is_ecmascript}
 use Rattle.language_ties.specs.Environments.{Environment, same_environment_kind, is_made_for, has_parameter_expressions, environments, innermost, takes_variables, first_taking, environment_or}
 use Rattle.language_ties.specs.OneSymbol.{HaveOneSymbol}
@@ -53,21 +51,23 @@ use Rattle.language_ties.specs.declared.bound_as.BoundAs.TheVariants as bound
 use Rattle.language_ties.specs.declared.environment_kind.EnvironmentKind.TheVariants as environment
 use Rattle.language_ties.proofs.UndeclaredNames.{each_identifier}
 use Rattle.language_ties.proofs.agree.Answers.{symbol_of, has_symbol, answers}
-use Rattle.language_ties.proofs.agree.KnownBounds.{some_is, KnownBound, bodiless}
+use Rattle.language_ties.proofs.agree.KnownBounds.{some_is, LeavesThere, KnownBound, bodiless}
 use Rattle.language_ties.proofs.agree.KnownNodes.{node_at}
 use Rattle.language_ties.proofs.agree.MadeEnvironments.{environment_kind_is}
 use Rattle.language_ties.proofs.caught.CaughtBounds.{IsTakenBy, taken_by}
 use Rattle.language_ties.proofs.caught.ClausePlaces.{IsClausal, ClausalAt, clausal_program, body_kind}
+use Rattle.language_ties.proofs.clear.PassedScopes.{taking_takes}
 use Rattle.language_ties.proofs.clear.SingleNames.{identifier_of, same_declaration, declared_once}
 use Rattle.language_ties.proofs.headers.Paired.{by_kind}
 use Rattle.language_ties.proofs.headers.Sides.{is_parameters, Side, TakingSide, Sides, SidesAt, sides_program}
+use Rattle.language_ties.proofs.moved.Settled.{settled, settled_bounds, settled_name, settled_identifier, settled_among}
 use Rattle.language_ties.proofs.own_names.AnyBounds.{AnyBound, any_bound, IsDeclared, is_declared, declared_known}
 use Rattle.language_ties.proofs.own_names.OwnBounds.{IsOfExpression, OwnBound, own_maker}
 use Rattle.language_ties.proofs.own_names.OwnSymbols.{one_name}
 use Rattle.language_ties.proofs.shared.HomesShared.{share_symbols, is_made, until_among, until_stays, at_header}
 use Rattle.language_ties.proofs.shared.Runs.{SharedAtLast}
 use Rattle.language_ties.proofs.shared.Shared.{IsNowIn, IsBoundNow, BoundBy}
-use Rattle.language_ties.proofs.symbols.OneSymbol.{each_at, one_symbol}
+use Rattle.language_ties.proofs.symbols.OneSymbol.{each_at, StaysThere, share_symbol}
 use Rattle.language_ties.proofs.symbols.ScopeOpeners.{openers, IsOpened, one_scope}
 
 never : true ≡ false → ⊥
@@ -114,15 +114,10 @@ before_cut c (not_yet e es i b cut) d a q = go e b (subst (λ t. Among d (declar
 
 -- ---- headers that are still to end
 
-match_at : (aw : List ℕ) (chain : List OpenScope) (s : OpenScope) → AllMatch aw chain → Among s chain → s.in_header ≡ contains aw s.number
-match_at aw [] s h a = absurd a
-match_at aw (t ∷ chain) s h (inl e) = subst (λ (o : OpenScope). o.in_header ≡ contains aw o.number) e h.0
-match_at aw (t ∷ chain) s h (inr a) = match_at aw chain s h.1 a
-
 -- a header that holds a place is awaited where that stands
 place_awaits : (q : Place) (s : OpenScope) (aw : List ℕ) (ss : List Step) → AreMatched aw ss → Among (entering q) ss → Among s q.chain → is kind.BindingIdentifier q.node ≡ false → s.in_header ≡ true → WillAwait s.number aw ss
 place_awaits q s aw [] m a b n i = absurd a
-place_awaits q s aw (step ∷ ss) m (inl e) b n i = inl (sym (match_at aw q.chain s (subst (IsMatchedStep aw) e m.0 n) b) ∙ i)
+place_awaits q s aw (step ∷ ss) m (inl e) b n i = inl (sym (match_among aw q.chain s (subst (IsMatchedStep aw) e m.0 n) b) ∙ i)
 place_awaits q s aw (step ∷ ss) m (inr a) b n i = inr (place_awaits q s (awaiting_past aw step) ss m.1 a b n i)
 
 -- ---- a declaration and what binds its name
@@ -140,7 +135,7 @@ no_identifier s q b a = go (same_kind q.node.kind kind.BindingIdentifier) refl
     go false e = e
     go true e = absurd (subst (λ k. Among b (bound_by_node k s q.node q.path)) (kind_is q.node.kind kind.BindingIdentifier e) a)
 
-module _ (p : Tree) (h : first_fault p ≡ None) (e : is_ecmascript p ≡ true) (numbered : IsNumbered p.root) (x : Name) (none : IsBoundOutsideWith p x) (clear : AllKeepClear x (declarations (events (steps p)))) (plain : IsPlainName p x) where
+module _ (p : Tree) (h : first_fault p ≡ None) (e : is_ecmascript p ≡ true) (numbered : IsNumbered p.root) (x : Name) (clear : AllKeepClear x (declarations (events (steps p)))) (plain : IsPlainName p x) where
   abbrev es : List Event
   es = events (steps p)
 
@@ -148,38 +143,57 @@ module _ (p : Tree) (h : first_fault p ≡ None) (e : is_ecmascript p ≡ true) 
   final = run start es
 
   abbrev ws : List Bound
-  ws = written p.source_type (steps p)
+  ws = settled_bounds p
 
   abbrev Known : Bound → Type 0
-  Known b = KnownBound p h e numbered x none plain b
+  Known b = KnownBound p h e numbered x plain b
 
   abbrev Any : Bound → Type 0
-  Any b = AnyBound p h e numbered x none plain b
+  Any b = AnyBound p h e numbered x plain b
 
-  -- the scope where its declaration ends, with its environment
-  side_of : (b : Bound) → b.name ≡ x → (k : Known b) → Side (node_at p) k.declares.declaration.route.target b.environment
-  side_of b n k =
+  -- what is bound where it is written
+  staying_sides : (b : Bound) → b.name ≡ x → (k : Known b) → StaysThere p h e numbered x b k.declares → Sides (node_at p) k.declares.place.chain (environments k.declares.place.node k.declares.place.path)
+  staying_sides b n k stays =
       let q : Place = k.declares.place in
-      let apart : in_with_under q.path ≡ false = none q k.declares.entered b k.declares.binds n in
-      let both : Sides (node_at p) q.chain (environments q.node q.path) = each_at (SidesAt (node_at p)) (steps p) (entering q) (sides_program p h e numbered) k.declares.entered (no_identifier p.source_type q b k.declares.binds) apart in
-      elim (by_kind p.source_type q k.declares.declaration b q.node.kind k.declares.unmoved k.declares.told k.declares.binds) [
+      each_at (SidesAt (node_at p)) (steps p) (entering q) (sides_program p h e numbered) k.declares.entered (no_identifier p.source_type q b stays.binds)
+
+  staying_side : (b : Bound) → b.name ≡ x → (k : Known b) → StaysThere p h e numbered x b k.declares → Side (node_at p) k.declares.declaration.route.target b.environment
+  staying_side b n k stays =
+      let q : Place = k.declares.place in
+      let both : Sides (node_at p) q.chain (environments q.node q.path) = staying_sides b n k stays in
+      elim (by_kind p.source_type q k.declares.declaration b q.node.kind stays.unmoved k.declares.told stays.binds) [
         | inl w ↦ subst (λ d. Side (node_at p) k.declares.declaration.route.target d) (sym w.1) (subst (λ r. Side (node_at p) r.target (innermost (environments q.node q.path))) (sym w.0) both.inner)
         | inr w ↦ subst (λ d. Side (node_at p) k.declares.declaration.route.target d) (sym w.1)
             (subst (λ r. Side (node_at p) r.target (environment_or (innermost (environments q.node q.path)) (first_taking (environments q.node q.path)))) (sym w.0)
             (target_side (node_at p) q.chain (passed_before is_var q.chain) (environments q.node q.path) (first_with is_var q.chain) (first_taking (environments q.node q.path)) both.taking both.inner))
       ]
 
+  -- a function that leaves its block ends where variables go
+  leaving_side : (b : Bound) (k : Known b) → LeavesThere p h e numbered x plain b k.declares → Side (node_at p) k.declares.declaration.route.target b.environment
+  leaving_side b k left =
+      let q : Place = k.declares.place in
+      let both : Sides (node_at p) q.chain (environments q.node q.path) = each_at (SidesAt (node_at p)) (steps p) (entering q) (sides_program p h e numbered) k.declares.entered (ap (λ i. same_kind i kind.BindingIdentifier) left.binds.function) in
+      taker_side (first_with is_var q.chain) (first_taking (environments q.node q.path)) k.declares.declaration.route.target b.environment (left.left.target ∙ ap (λ d. Some d.route.target) (sym left.declares)) left.taking both.taking
+    where
+      taker_side : (o : Option OpenScope) (t : Option Environment) (s : OpenScope) (d : Environment) → o ≡ Some s → t ≡ Some d → TakingSide (node_at p) o t → Side (node_at p) s d
+      taker_side o t s d v w i = subst (λ z. TakingSide (node_at p) (Some s) z) w (subst (λ z. TakingSide (node_at p) z t) v i)
+
+  -- the scope where its declaration ends, with its environment
+  side_of : (b : Bound) → b.name ≡ x → (k : Known b) → Side (node_at p) k.declares.declaration.route.target b.environment
+  side_of b n k = elim k.origin [ inl stays ↦ staying_side b n k stays | inr left ↦ leaving_side b k left ]
+
+  -- what a clause binds is no function that leaves its block
+  clause_stays : (b : Bound) (k : Known b) → is_made_for environment.Catch b.environment ≡ true → LeavesThere p h e numbered x plain b k.declares → ⊥
+  clause_stays b k caught left =
+      never (sym (taking_takes (environments k.declares.place.node k.declares.place.path) b.environment left.taking) ∙ ap (λ z. takes_variables (record { kind = z; maker = b.environment.maker })) (environment_kind_is b.environment.kind environment.Catch caught))
+
   -- what a clause binds is declared in the innermost scope of its place, in the header
   caught_target : (b : Bound) → b.name ≡ x → (k : Known b) → is_made_for environment.Catch b.environment ≡ true → k.declares.declaration.route.target ≡ place.innermost k.declares.place.chain
-  caught_target b n k caught =
-      let q : Place = k.declares.place in
-      let apart : in_with_under q.path ≡ false = none q k.declares.entered b k.declares.binds n in
-      let both : Sides (node_at p) q.chain (environments q.node q.path) = each_at (SidesAt (node_at p)) (steps p) (entering q) (sides_program p h e numbered) k.declares.entered (no_identifier p.source_type q b k.declares.binds) apart in
-      elim (by_kind p.source_type q k.declares.declaration b q.node.kind k.declares.unmoved k.declares.told k.declares.binds) [
-        | inl w ↦ ap (λ r. r.target) w.0
-        | inr w ↦ ap (λ r. r.target) w.0 ∙ outward q.chain (environments q.node q.path) (first_with is_var q.chain) (first_taking (environments q.node q.path)) refl both.taking (subst (λ d. is_made_for environment.Catch d ≡ true) w.1 caught)
-      ]
+  caught_target b n k caught = elim k.origin [ inl stays ↦ of_staying stays | inr left ↦ absurd (clause_stays b k caught left) ]
     where
+      q : Place
+      q = k.declares.place
+
       takes_first : (ds : List Environment) (d : Environment) → first_taking ds ≡ Some d → takes_variables d ≡ true
       takes_first [] d i = absurd cc
       takes_first (c ∷ ds) d i = go (takes_variables c) refl i (takes_first ds d)
@@ -196,6 +210,12 @@ module _ (p : Tree) (h : first_fault p ≡ None) (e : is_ecmascript p ≡ true) 
       outward chain ds (Some s) None i v c = absurd v
       outward chain ds (Some s) (Some d) i v c = absurd (never (sym (takes_first ds d i) ∙ no_catch d c))
 
+      of_staying : StaysThere p h e numbered x b k.declares → k.declares.declaration.route.target ≡ place.innermost k.declares.place.chain
+      of_staying stays = elim (by_kind p.source_type q k.declares.declaration b q.node.kind stays.unmoved k.declares.told stays.binds) [
+        | inl w ↦ ap (λ r. r.target) w.0
+        | inr w ↦ ap (λ r. r.target) w.0 ∙ outward q.chain (environments q.node q.path) (first_with is_var q.chain) (first_taking (environments q.node q.path)) refl (staying_sides b n k stays).taking (subst (λ d. is_made_for environment.Catch d ≡ true) w.1 caught)
+      ]
+
   pub caught_in_header : (b : Bound) → b.name ≡ x → (k : Known b) → is_made_for environment.Catch b.environment ≡ true → (y : Node) → node_at p b.environment.maker ≡ Some y → y.kind ≡ kind.CatchClause → k.declares.declaration.route.target.in_header ≡ true
   caught_in_header b n k caught y f c =
       let q : Place = k.declares.place in
@@ -204,7 +224,10 @@ module _ (p : Tree) (h : first_fault p ≡ None) (e : is_ecmascript p ≡ true) 
       let opener : (place.innermost q.chain).opener ≡ b.environment.maker = ap (λ s. s.opener) (sym target) ∙ k.declares.maker in
       elim (clausal.stands y (ap (node_at p) opener ∙ f) c) [
         | inl w ↦ ap (λ s. s.in_header) target ∙ w
-        | inr w ↦ absurd (subst (λ i. Among b (bound_by_node i p.source_type q.node q.path)) (body_kind q w) k.declares.binds)
+        | inr w ↦ elim k.origin [
+          | inl stays ↦ absurd (subst (λ i. Among b (bound_by_node i p.source_type q.node q.path)) (body_kind q w) stays.binds)
+          | inr left ↦ absurd (clause_stays b k caught left)
+        ]
       ]
 
   -- ---- what a declaration binds
@@ -214,13 +237,13 @@ module _ (p : Tree) (h : first_fault p ≡ None) (e : is_ecmascript p ≡ true) 
     any : Any bind
     among : Among bind ws
     named : bind.name ≡ x
-    is_it : d ≡ (is_declared p h e numbered x none plain bind any).declaration
+    is_it : d ≡ (is_declared p h e numbered x plain bind any).declaration
 
   is_of : (d : Declaration) → Among d (declarations es) → d.naming.name ≡ x → IsOf d
   is_of d a name =
-      let (b, w, n, i) = each_identifier p.source_type x (λ j. (b : Bound) × Among b ws × (b.name ≡ x) × (b.identifier ≡ j)) p h e (λ b w n. (b, w, n, refl)) d a name in
-      let k : Any b = any_bound p h e numbered x none plain b w n in
-      let v : IsDeclared p h e numbered x none plain b = is_declared p h e numbered x none plain b k in
+      let (b, w, n, i) = each_identifier p.source_type x (λ j. (b : Bound) × Among b ws × (b.name ≡ x) × (b.identifier ≡ j)) p h e (λ b w n. (settled b, settled_among p b w, settled_name b ∙ n, settled_identifier b)) d a name in
+      let k : Any b = any_bound p h e numbered x plain b w n in
+      let v : IsDeclared p h e numbered x plain b = is_declared p h e numbered x plain b k in
       let one : identifier_of d ≡ identifier_of v.declaration = sym i ∙ sym v.identifier in
       record { bind = b; any = k; among = w; named = n; is_it = same_declaration d v.declaration (declarations es) a v.among one (declared_once p (identifier_of d) h numbered) }
 
@@ -274,17 +297,17 @@ module _ (p : Tree) (h : first_fault p ≡ None) (e : is_ecmascript p ≡ true) 
 
     same_maker : (d : Declaration) (w : IsOf d) → d.route.target.number ≡ s.number → w.bind.environment.maker ≡ s.opener
     same_maker d w q =
-        let v : IsDeclared p h e numbered x none plain w.bind = is_declared p h e numbered x none plain w.bind w.any in
+        let v : IsDeclared p h e numbered x plain w.bind = is_declared p h e numbered x plain w.bind w.any in
         let number : v.declaration.route.target.number ≡ s.number = sym (ap (λ z. z.route.target.number) w.is_it) ∙ q in
         sym v.maker ∙ some_is v.declaration.route.target.opener s.opener (sym v.opened ∙ ap (slice_get (openers (steps p))) number ∙ opened)
 
     outside_of : (d : Declaration) (w : IsOf d) → stands_before_body s.number d ≡ true → is_made_for environment.Body w.bind.environment ≡ false
     outside_of d w t = by w.any w.is_it
       where
-        by : (k : Any w.bind) → d ≡ (is_declared p h e numbered x none plain w.bind k).declaration → is_made_for environment.Body w.bind.environment ≡ false
+        by : (k : Any w.bind) → d ≡ (is_declared p h e numbered x plain w.bind k).declaration → is_made_for environment.Body w.bind.environment ≡ false
         by (inr o) q = own_outside w.bind o
         by (inl k) q =
-            let same : d ≡ k.declares.declaration = q ∙ declared_known p h e numbered x none plain w.bind k in
+            let same : d ≡ k.declares.declaration = q ∙ declared_known p h e numbered x plain w.bind k in
             let header : d.route.target.in_header ≡ true = go d.route.target.in_header (is_own_name d) (and_second (d.route.target.number == s.number) (d.route.target.in_header || is_own_name d) t) (ap is_own_name same ∙ k.declares.visible) in
             (side_of w.bind w.named k).outside (sym (ap (λ z. z.route.target.in_header) same) ∙ header)
           where
@@ -309,7 +332,7 @@ module _ (p : Tree) (h : first_fault p ≡ None) (e : is_ecmascript p ≡ true) 
       where
         now : (d : Declaration) (w : IsOf d) → IsNowIn (table_of p) x d s.number → d.route.target.number ≡ s.number
         now d w (inl q) = q
-        now d w (inr q) = absurd (whole w.bind (taken_by p h e numbered x none plain w.bind w.any s.number (ap (λ z. z.route.target.body) (sym w.is_it) ∙ q.0)))
+        now d w (inr q) = absurd (whole w.bind (taken_by p h e numbered x plain w.bind w.any s.number (ap (λ z. z.route.target.body) (sym w.is_it) ∙ q.0)))
 
         until_made : (m : Made) → Among m last.made → Among m final.made
         until_made m a = until_stays m start es s.number a
@@ -347,10 +370,10 @@ module _ (p : Tree) (h : first_fault p ≡ None) (e : is_ecmascript p ≡ true) 
         let number : d.route.target.number ≡ s.number = one_scope p numbered d.route.target s k.declares.opened opened (k.declares.maker ∙ sym q) in
         let header : d.route.target.in_header ≡ true = (side_of b n k).inside parameters expressions in
         let there : Among m last.made = made_before m made (counts d y number (rw header refl) k.declares.named) in
-        let here : get last.bindings s.number x ≡ Some y = at_target d y (bodiless p h e numbered x none plain b k (no_clause b.environment parameters)) number (shared.2.declared m there k.declares.named k.declares.visible) in
+        let here : get last.bindings s.number x ≡ Some y = at_target d y (bodiless p h e numbered x plain b k (no_clause b.environment parameters)) number (shared.2.declared m there k.declares.named k.declares.visible) in
         let symbol : symbol_at (analysis_of p) b.identifier ≡ Some y = symbol_is_at m made b.identifier k.declares.identifier in
-        let same : y ≡ symbol_of p h e numbered x none clear plain b k = some_is y (symbol_of p h e numbered x none clear plain b k) (sym symbol ∙ has_symbol p h e numbered x none clear plain b k) in
-        here ∙ ap Some same ∙ sym (answers p h e numbered x none clear plain b k (no_clause b.environment parameters) s opened q)
+        let same : y ≡ symbol_of p h e numbered x clear plain b k = some_is y (symbol_of p h e numbered x clear plain b k) (sym symbol ∙ has_symbol p h e numbered x clear plain b k) in
+        here ∙ ap Some same ∙ sym (answers p h e numbered x clear plain b k (no_clause b.environment parameters) s opened q)
 
     -- the header sees a function's own name, where the parameters don't bind it
     pub own_answers : (b : Bound) (k : OwnBound p h x b) → s.opener ≡ k.place.node.node_id → k.place.node.kind ≡ kind.Function → ((c : Bound) → Among c ws → c.name ≡ x → is_bound_as bound.OwnName c ≡ false → c.environment.maker ≡ s.opener → is_made_for environment.Body c.environment ≡ false → ⊥) → (y : ℕ) × (get last.bindings s.number x ≡ Some y) × (symbol_at (analysis_of p) b.identifier ≡ Some y)
@@ -370,10 +393,10 @@ module _ (p : Tree) (h : first_fault p ≡ None) (e : is_ecmascript p ≡ true) 
         or_own true v i = refl
         or_own false v i = i
 
-        by : {y : ℕ} (w : IsSeen y) (v : Any w.tells.bind) → w.made.declaration ≡ (is_declared p h e numbered x none plain w.tells.bind v).declaration → symbol_at (analysis_of p) b.identifier ≡ Some y
+        by : {y : ℕ} (w : IsSeen y) (v : Any w.tells.bind) → w.made.declaration ≡ (is_declared p h e numbered x plain w.tells.bind v).declaration → symbol_at (analysis_of p) b.identifier ≡ Some y
         by w (inl v) i = absurd (apart w.tells.bind w.tells.among w.tells.named v.no_own w.maker w.outside)
         by w (inr v) i =
-            let identifier : w.made.declaration.naming.identifier ≡ w.tells.bind.identifier = ap identifier_of i ∙ (is_declared p h e numbered x none plain w.tells.bind (inr v)).identifier in
+            let identifier : w.made.declaration.naming.identifier ≡ w.tells.bind.identifier = ap identifier_of i ∙ (is_declared p h e numbered x plain w.tells.bind (inr v)).identifier in
             let same : w.tells.bind.identifier ≡ b.identifier = one_name p h e numbered x w.tells.bind b v k (sym (own_maker p h x w.tells.bind v) ∙ w.maker ∙ q) f in
             symbol_is_at w.made w.among b.identifier (identifier ∙ same) ∙ ap Some w.symbol
 
@@ -402,11 +425,11 @@ module _ (p : Tree) (h : first_fault p ≡ None) (e : is_ecmascript p ≡ true) 
         let w : IsSeen y = seen y here in
         (y, here, by w w.tells.any w.tells.is_it)
       where
-        by : {y : ℕ} (w : IsSeen y) (v : Any w.tells.bind) → w.made.declaration ≡ (is_declared p h e numbered x none plain w.tells.bind v).declaration → symbol_at (analysis_of p) b.identifier ≡ Some y
+        by : {y : ℕ} (w : IsSeen y) (v : Any w.tells.bind) → w.made.declaration ≡ (is_declared p h e numbered x plain w.tells.bind v).declaration → symbol_at (analysis_of p) b.identifier ≡ Some y
         by w (inr v) j = absurd (no_own w.tells.bind v w.maker)
         by w (inl v) j =
-            let identifier : w.made.declaration.naming.identifier ≡ w.tells.bind.identifier = ap identifier_of j ∙ (is_declared p h e numbered x none plain w.tells.bind (inl v)).identifier in
-            let both : HaveOneSymbol p b w.tells.bind = one_symbol p h e numbered x (share_symbols p h e x clear) b w.tells.bind k.placed.by_node v.placed.by_node n w.tells.named (sym q ∙ sym w.maker) in
+            let identifier : w.made.declaration.naming.identifier ≡ w.tells.bind.identifier = ap identifier_of j ∙ (is_declared p h e numbered x plain w.tells.bind (inl v)).identifier in
+            let both : HaveOneSymbol p b w.tells.bind = share_symbol p h e numbered x (share_symbols p h e x clear) b w.tells.bind k.declares v.declares (sym q ∙ sym w.maker) in
             let same : both.symbol ≡ w.made.symbol = some_is both.symbol w.made.symbol (sym both.second ∙ symbol_is_at w.made w.among w.tells.bind.identifier identifier) in
             both.first ∙ ap Some (same ∙ w.symbol)
 

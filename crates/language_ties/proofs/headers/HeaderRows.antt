@@ -1,11 +1,10 @@
--- What names in headers mean, and that the tables say the same where keys are marked, by computation.
+-- What names in headers mean, and that the tables say the same, by computation.
 use lib.Utf8.{encode}
 use Rattle.std.specs.Str.{chars}
-use Rattle.std.proofs.Common.{◌≡◌, [], ◌∷◌, None, codes, true, false, refl}
+use Rattle.std.proofs.Common.{◌≡◌, [], None, codes, true, refl}
 use Rattle.semantic_tree.specs.Faults.{first_fault}
 use Rattle.language_ties.specs.Agreement.{differing}
 use Rattle.language_ties.specs.EcmaScript.{is_ecmascript}
-use Rattle.language_ties.specs.MarkedKeys.{keys_are_marked}
 use Rattle.language_ties.proofs.headers.HeaderPrograms.{parameter_in_header, variable_behind_header, computed_key, closure_in_header, function_behind_header, header_in_header, header_of_arrow, class_and_header, own_name_and_parameter, own_name_and_function, unmarked_key}
 
 parameter_in_header_a : differing parameter_in_header (codes "a") ≡ []
@@ -64,8 +63,8 @@ own_name_and_function_f : differing own_name_and_function (codes "f") ≡ []
 unfolding encode chars
 own_name_and_function_f = refl
 
--- without the mark the language has no body beside the parameters, and the key would mean the body's variable
-unmarked_key_a : differing unmarked_key (codes "a") ≡ 7 ∷ []
+-- a key that refers counts as computed without the mark, too
+unmarked_key_a : differing unmarked_key (codes "a") ≡ []
 unfolding encode chars
 unmarked_key_a = refl
 
@@ -76,11 +75,3 @@ unmarked_key_formed = refl
 unmarked_key_ecmascript : is_ecmascript unmarked_key ≡ true
 unfolding encode chars
 unmarked_key_ecmascript = refl
-
-unmarked_key_unmarked : keys_are_marked unmarked_key.root.children ≡ false
-unfolding encode chars
-unmarked_key_unmarked = refl
-
-computed_key_marked : keys_are_marked computed_key.root.children ≡ true
-unfolding encode chars
-computed_key_marked = refl

@@ -3,11 +3,9 @@ use Rattle.std.proofs.Common.{◌≡◌, ℕ, List, [], ◌∷◌, Option, Some,
 use Rattle.std.proofs.lemmas.Bool.{cases_Bool}
 use Rattle.semantic_syntax.proofs.Truth.{and_first, and_second}
 use Rattle.semantic_kinds.specs.Kinds.{same_kind}
-use Rattle.semantic_kinds.specs.MarkSets.{has_mark}
 use Rattle.semantic_kinds.specs.Roles.{same_role}
 use Rattle.semantic_kinds.specs.declared.kind.AstType.{AstType}
 use Rattle.semantic_kinds.specs.declared.kind.AstType.TheVariants as kind
-use Rattle.semantic_kinds.specs.declared.mark.Mark.TheVariants as mark
 use Rattle.semantic_kinds.specs.declared.role.Role.{Role}
 use Rattle.semantic_kinds.specs.declared.role.Role.TheVariants as role
 use Rattle.semantic_syntax.specs.SourceTypes.{is_typescript}
@@ -28,11 +26,10 @@ use Rattle.semantic_model.proofs.steps.EachStep.{each_of_node, each_of_turn}
 use Rattle.semantic_model.proofs.steps.Turn.{Turn, turn_at}
 use Rattle.semantic_model.proofs.steps.TurnCases.{opening_case, ending_case, last_case}
 use Rattle.walk_model.proofs.places.Shapes.{holds_below}
-use Rattle.language_ties.specs.AgreeingNames.{StandsInExpressions, IsReadOutsideWith, AllStandApart}
+use Rattle.language_ties.specs.AgreeingNames.{StandsInExpressions, AllStandInExpressions}
 use Rattle.language_ties.specs.Bound.{Bound, written}
 use Rattle.language_ties.specs.EcmaScript.{is_ecmascript_forest, is_ecmascript}
-use Rattle.language_ties.specs.Environments.{contains_expression, has_parameter_expressions}
-use Rattle.language_ties.specs.MarkedKeys.{refers, key_refers, keys_are_marked}
+use Rattle.language_ties.specs.Environments.{refers, key_refers, contains_expression, has_parameter_expressions}
 use Rattle.language_ties.proofs.headers.ListsOnce.{is_listing, is_list_role, some_list, once_below, tree_once}
 use Rattle.language_ties.proofs.headers.PatternShape.{is_binding, is_pattern_child, tree_patterns, is_list_child, tree_lists, unread}
 use Rattle.language_ties.proofs.shared.PlainNodes.{forests_plain}
@@ -122,7 +119,7 @@ module _ (p : Tree) where
   list_no_reference k h = subst (λ z. same_kind z kind.IdentifierReference ≡ false) (sym (kind_is k kind.FormalParameters h)) refl
 
   -- a child of a node all of whose functions have one
-  module _ (x : Node) (path : List Node) (r : Role) (node : Node) (after : Forest) (expressed : AllExpressed x path) (listed : is_list_child x.kind r node.kind [] ≡ true) (e : is_ecmascript_forest node.children ≡ true) (m : keys_are_marked node.children ≡ true) (h : holds_below is_pattern_child node.kind node.children ≡ true)
+  module _ (x : Node) (path : List Node) (r : Role) (node : Node) (after : Forest) (expressed : AllExpressed x path) (listed : is_list_child x.kind r node.kind [] ≡ true) (e : is_ecmascript_forest node.children ≡ true) (h : holds_below is_pattern_child node.kind node.children ≡ true)
       (left : is_listing x.kind ≡ true → (params_in x.children ≡ with_child x r node after) ⊎ (with_child x r node after ≡ [])) where
     a_list : is kind.FormalParameters node ≡ true → Fits node (x ∷ path)
     a_list k = by (contains_expression node.children) refl
@@ -135,7 +132,7 @@ module _ (p : Tree) where
         by false w =
             let binds : node.kind ≡ kind.FormalParameters = kind_is node.kind kind.FormalParameters k in
             let no_property : same_kind node.kind kind.BindingProperty ≡ true → key_refers node.children ≡ false = λ i. absurd (never (sym i ∙ ap (λ z. same_kind z kind.BindingProperty) binds)) in
-            inr (list_no_reference node.kind k, unread node.kind node.children (subst (λ z. is_binding z ≡ true) (sym binds) refl) no_property e m h w)
+            inr (list_no_reference node.kind k, unread node.kind node.children (subst (λ z. is_binding z ≡ true) (sym binds) refl) no_property e h w)
 
     child_of_expressed : Fits node (x ∷ path)
     child_of_expressed = elim (cases_Bool (is kind.FormalParameters node)) [
@@ -147,18 +144,17 @@ module _ (p : Tree) where
   below_of x path (inl h) = inl h
   below_of x path (inr h) = inr h.1
 
-  fits_steps : (q : Place) (own : Option OpenScope) (n cursor : ℕ) (f : Forest) → FitsBelow q.node q.path f → AreLeft q.node f → is_ecmascript_forest f ≡ true → keys_are_marked f ≡ true → once_below q.node.kind f ≡ true → holds_below is_pattern_child q.node.kind f ≡ true → holds_below is_list_child q.node.kind f ≡ true → EachStep FitsAt (steps_below q own n cursor f)
-  fits_steps q own n cursor nothing fits left e m o h l = last_case (EachStep FitsAt) q own n tt (tt, (tt, tt))
-  fits_steps q own n cursor (tree r k2 span text marks below id after) fits left e m o h l =
+  fits_steps : (q : Place) (own : Option OpenScope) (n cursor : ℕ) (f : Forest) → FitsBelow q.node q.path f → AreLeft q.node f → is_ecmascript_forest f ≡ true → once_below q.node.kind f ≡ true → holds_below is_pattern_child q.node.kind f ≡ true → holds_below is_list_child q.node.kind f ≡ true → EachStep FitsAt (steps_below q own n cursor f)
+  fits_steps q own n cursor nothing fits left e o h l = last_case (EachStep FitsAt) q own n tt (tt, (tt, tt))
+  fits_steps q own n cursor (tree r k2 span text marks below id after) fits left e o h l =
       let node : Node = record { kind = k2; span = span; text = text; marks = marks; children = below; node_id = id } in
       let turn : Turn = turn_at q own n cursor r node after in
       let forests : (is_ecmascript_forest below ≡ true) × (is_ecmascript_forest after ≡ true) = forests_plain _ below after e in
-      let marked : (keys_are_marked below && keys_are_marked after) ≡ true = and_second (not (same_kind k2 kind.BindingProperty) || has_mark marks mark.Computed || not (key_refers below)) (keys_are_marked below && keys_are_marked after) m in
       let onces : (once_below k2 below && once_below q.node.kind after) ≡ true = and_second (not (is_list_role q.node.kind r) || not (some_list q.node.kind (trees after))) (once_below k2 below && once_below q.node.kind after) o in
       let patterns : (holds_below is_pattern_child k2 below && holds_below is_pattern_child q.node.kind after) ≡ true = and_second (is_pattern_child q.node.kind r k2 text) (holds_below is_pattern_child k2 below && holds_below is_pattern_child q.node.kind after) h in
       let lists : (holds_below is_list_child k2 below && holds_below is_list_child q.node.kind after) ≡ true = and_second (is_list_child q.node.kind r k2 text) (holds_below is_list_child k2 below && holds_below is_list_child q.node.kind after) l in
       let child : Fits node (q.node ∷ q.path) = elim fits [
-        | inl expressed ↦ child_of_expressed q.node q.path r node after expressed (and_first (is_list_child q.node.kind r k2 text) (holds_below is_list_child k2 below && holds_below is_list_child q.node.kind after) l) forests.0 (and_first (keys_are_marked below) (keys_are_marked after) marked) (and_first (holds_below is_pattern_child k2 below) (holds_below is_pattern_child q.node.kind after) patterns) left
+        | inl expressed ↦ child_of_expressed q.node q.path r node after expressed (and_first (is_list_child q.node.kind r k2 text) (holds_below is_list_child k2 below && holds_below is_list_child q.node.kind after) l) forests.0 (and_first (holds_below is_pattern_child k2 below) (holds_below is_pattern_child q.node.kind after) patterns) left
         | inr none ↦ inr (or_none (same_kind k2 kind.IdentifierReference) (refers below) (or_none (same_kind k2 kind.IdentifierReference || refers below) (refers after) none).0)
       ] in
       let others : FitsBelow q.node q.path after = elim fits [
@@ -168,28 +164,28 @@ module _ (p : Tree) where
       each_of_turn FitsAt turn (record {
         before = opening_case (EachStep FitsAt) q r own n tt (tt, tt);
         whole = each_of_node FitsAt turn.child turn.below child
-            (fits_steps turn.child None turn.next turn.inner below (below_of node (q.node ∷ q.path) child) (λ i. inl refl) forests.0 (and_first (keys_are_marked below) (keys_are_marked after) marked) (and_first (once_below k2 below) (once_below q.node.kind after) onces) (and_first (holds_below is_pattern_child k2 below) (holds_below is_pattern_child q.node.kind after) patterns) (and_first (holds_below is_list_child k2 below) (holds_below is_list_child q.node.kind after) lists)) tt;
+            (fits_steps turn.child None turn.next turn.inner below (below_of node (q.node ∷ q.path) child) (λ i. inl refl) forests.0 (and_first (once_below k2 below) (once_below q.node.kind after) onces) (and_first (holds_below is_pattern_child k2 below) (holds_below is_pattern_child q.node.kind after) patterns) (and_first (holds_below is_list_child k2 below) (holds_below is_list_child q.node.kind after) lists)) tt;
         behind = ending_case (EachStep FitsAt) q r turn.scope after tt (λ s. (tt, tt)) (λ s. (tt, tt)) (λ s. (tt, (tt, tt)));
-        others = fits_steps q turn.scope turn.rest turn.past after others (left_after q.node r node after (and_first (not (is_list_role q.node.kind r) || not (some_list q.node.kind (trees after))) (once_below k2 below && once_below q.node.kind after) o) left) forests.1 (and_second (keys_are_marked below) (keys_are_marked after) marked) (and_second (once_below k2 below) (once_below q.node.kind after) onces) (and_second (holds_below is_pattern_child k2 below) (holds_below is_pattern_child q.node.kind after) patterns) (and_second (holds_below is_list_child k2 below) (holds_below is_list_child q.node.kind after) lists);
+        others = fits_steps q turn.scope turn.rest turn.past after others (left_after q.node r node after (and_first (not (is_list_role q.node.kind r) || not (some_list q.node.kind (trees after))) (once_below k2 below && once_below q.node.kind after) o) left) forests.1 (and_second (once_below k2 below) (once_below q.node.kind after) onces) (and_second (holds_below is_pattern_child k2 below) (holds_below is_pattern_child q.node.kind after) patterns) (and_second (holds_below is_list_child k2 below) (holds_below is_list_child q.node.kind after) lists);
       })
 
-  fits_program : first_fault p ≡ None → is_ecmascript p ≡ true → keys_are_marked p.root.children ≡ true → EachStep FitsAt (steps p)
-  fits_program h e m =
+  fits_program : first_fault p ≡ None → is_ecmascript p ≡ true → EachStep FitsAt (steps p)
+  fits_program h e =
       let root : Place = root_place p in
       let n : ℕ = on_entering p.root.kind 0 in
       each_of_node FitsAt root (steps_below root None 0 n p.root.children) (inl tt)
-      (fits_steps root None 0 n p.root.children (inl tt) (λ i. inl refl) (and_second (not (is_typescript p.source_type)) (is_ecmascript_forest p.root.children) e) m (tree_once p h) (tree_patterns p h) (tree_lists p h)) tt
+      (fits_steps root None 0 n p.root.children (inl tt) (λ i. inl refl) (and_second (not (is_typescript p.source_type)) (is_ecmascript_forest p.root.children) e) (tree_once p h) (tree_patterns p h) (tree_lists p h)) tt
 
   -- so each reference stands in expressions
   of_expressed : (bs : List Bound) (name : Name) (x : Node) (path : List Node) → AllExpressed x path → StandsInExpressions bs name x path
   of_expressed bs name x [] h = tt
-  of_expressed bs name x (f ∷ path) h = ((λ k b a n m. h.0 k), of_expressed bs name f path h.1)
+  of_expressed bs name x (f ∷ path) h = ((λ k b d a n i m. h.0 k), of_expressed bs name f path h.1)
 
-  pub in_expressions : first_fault p ≡ None → is_ecmascript p ≡ true → keys_are_marked p.root.children ≡ true → (name : Name) (q : Place) → Among (entering q) (steps p) → is kind.IdentifierReference q.node ≡ true → StandsInExpressions (written p.source_type (steps p)) name q.node q.path
-  in_expressions h e m name q a k = elim (each_at FitsAt (steps p) (entering q) (fits_program h e m) a) [
+  pub in_expressions : first_fault p ≡ None → is_ecmascript p ≡ true → (name : Name) (q : Place) → Among (entering q) (steps p) → is kind.IdentifierReference q.node ≡ true → StandsInExpressions (written p.source_type (steps p)) name q.node q.path
+  in_expressions h e name q a k = elim (each_at FitsAt (steps p) (entering q) (fits_program h e) a) [
     | inl w ↦ of_expressed (written p.source_type (steps p)) name q.node q.path w
     | inr w ↦ absurd (never (sym k ∙ w.0))
   ]
 
-  pub stand_apart : first_fault p ≡ None → is_ecmascript p ≡ true → keys_are_marked p.root.children ≡ true → (name : Name) → IsReadOutsideWith p name → AllStandApart p name
-  stand_apart h e m name outside q a k n = (outside q a k n, in_expressions h e m name q a k)
+  pub stand_in_expressions : first_fault p ≡ None → is_ecmascript p ≡ true → (name : Name) → AllStandInExpressions p name
+  stand_in_expressions h e name q a k n = in_expressions h e name q a k

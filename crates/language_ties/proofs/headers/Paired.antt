@@ -31,7 +31,7 @@ module _ (s : SourceType) (q : Place) where
 
   -- in the innermost, or where variables go
   abbrev pub Paired : Declaration → Bound → Type 0
-  Paired d b = ((d.route ≡ here q.chain) × (b.environment ≡ innermost es)) ⊎ ((d.route ≡ outward_to is_var q.chain) × (b.environment ≡ variable_environment es))
+  Paired d b = ((d.route ≡ here q.chain) × (b.environment ≡ innermost es)) ⊎ ((d.route ≡ outward_to is_var q.chain) × (b.environment ≡ variable_environment es) × (b.passed ≡ passed es))
 
   module _ (d : Declaration) (b : Bound) where
     of_row : (row : BinderRow) (is_pure : Bool) (names : List Node) → Among d (map (declaration_at q.node row is_pure) names) → (d.route ≡ row.route) × (d.how ≡ row.how)
@@ -59,7 +59,7 @@ module _ (s : SourceType) (q : Place) where
         go : (t : Bool) → is_with_text kind.VariableDeclaration (codes "var") declaration ≡ t → Among b (map (cond t (bound_outward fs) (bound_here bound.Lexical fs)) (bound_names q.node)) → Paired d b
         go true w i =
             let (n, j, v) = among_map (bound_outward fs) (bound_names q.node) b i in
-            inr (route ∙ rw w refl, sym (ap (λ z. z.environment) v) ∙ ap variable_environment same)
+            inr (route ∙ rw w refl, sym (ap (λ z. z.environment) v) ∙ ap variable_environment same, sym (ap (λ z. z.passed) v) ∙ ap passed same)
         go false w i =
             let (n, j, v) = among_map (bound_here bound.Lexical fs) (bound_names q.node) b i in
             inl (route ∙ rw w refl, sym (ap (λ z. z.environment) v) ∙ ap innermost same)

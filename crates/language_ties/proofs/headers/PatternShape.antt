@@ -1,4 +1,4 @@
--- Among parameters without an expression stands no reference, where keys are marked.
+-- Among parameters without an expression stands no reference.
 use Rattle.std.proofs.Common.{◌≡◌, ℕ, List, [], ◌∷◌, Bool, true, false, ◌&&◌, ◌||◌, not, None, inl, inr, ◌⊎◌, refl, sym, subst, ◌∙◌}
 use Rattle.std.specs.List.{list_all}
 use Rattle.std.proofs.lemmas.Bool.{cases_Bool}
@@ -23,8 +23,7 @@ use Rattle.semantic_model.proofs.form.Clauses.{kind_is}
 use Rattle.semantic_model.proofs.form.PartsHold.{passed_hold}
 use Rattle.walk_model.proofs.places.Shapes.{only_is, holds_below, tree_holds}
 use Rattle.language_ties.specs.EcmaScript.{is_ecmascript_kind, is_ecmascript_forest}
-use Rattle.language_ties.specs.Environments.{contains_expression}
-use Rattle.language_ties.specs.MarkedKeys.{refers, key_refers, keys_are_marked}
+use Rattle.language_ties.specs.Environments.{refers, key_refers, contains_expression}
 use Rattle.language_ties.proofs.headers.ListsOnce.{is_list_role}
 use Rattle.language_ties.proofs.shared.PlainNodes.{forests_plain}
 
@@ -148,18 +147,17 @@ binding_no_reference k h = elim (cases_Bool (same_kind k kind.IdentifierReferenc
   | inr e ↦ e
 ]
 
--- the children of a property don't refer in a key, unless it is marked
+-- the children of a property don't refer in a key
 abbrev HasQuietKey : AstType → Forest → Type 0
 HasQuietKey k f = same_kind k kind.BindingProperty ≡ true → key_refers f ≡ false
 
-quiet_key : (k : AstType) (computed : Bool) (f : Forest) → (not (same_kind k kind.BindingProperty) || computed || not (key_refers f)) ≡ true → (same_kind k kind.BindingProperty && computed) ≡ false → HasQuietKey k f
-quiet_key k computed f h n e = by (same_kind k kind.BindingProperty) computed (key_refers f) e n h
+quiet_key : (k : AstType) (marked : Bool) (f : Forest) → (same_kind k kind.BindingProperty && (marked || key_refers f)) ≡ false → HasQuietKey k f
+quiet_key k marked f n e = by (same_kind k kind.BindingProperty) marked (key_refers f) e n
   where
-    by : (a b c : Bool) → a ≡ true → (a && b) ≡ false → (not a || b || not c) ≡ true → c ≡ false
-    by true false false u v w = refl
-    by true false true u v w = absurd cc
-    by true true c u v w = absurd (never v)
-    by false b c u v w = absurd (never (sym u))
+    by : (a b c : Bool) → a ≡ true → (a && (b || c)) ≡ false → c ≡ false
+    by true false c u v = v
+    by true true c u v = absurd (never v)
+    by false b c u v = absurd (never (sym u))
 
 kind_here : (k : AstType) (r : Role) (rest more : Bool) → ((is_ecmascript_kind k && not (same_role r role.Decorators)) && rest && more) ≡ true → is_ecmascript_kind k ≡ true
 kind_here k r rest more h = and_first (is_ecmascript_kind k) (not (same_role r role.Decorators)) (and_first (is_ecmascript_kind k && not (same_role r role.Decorators)) rest (and_first ((is_ecmascript_kind k && not (same_role r role.Decorators)) && rest) more h))
@@ -177,20 +175,19 @@ which k r k2 h i d e = by (same_role r role.Initializer) (same_kind k kind.Bindi
     by false b c u true w l m n i d e z = absurd (never d)
     by false b c u false false l m n i d e z = absurd (never (sym e))
 
-pub unread : (k : AstType) (f : Forest) → is_binding k ≡ true → HasQuietKey k f → is_ecmascript_forest f ≡ true → keys_are_marked f ≡ true → holds_below is_pattern_child k f ≡ true → contains_expression f ≡ false → refers f ≡ false
-unread k nothing b q e m h n = refl
-unread k (tree r k2 span text marks below id after) b q e m h n =
-    let none : NoExpression r k2 (has_mark marks mark.Computed) below after = no_expression r k2 (has_mark marks mark.Computed) below after n in
+pub unread : (k : AstType) (f : Forest) → is_binding k ≡ true → HasQuietKey k f → is_ecmascript_forest f ≡ true → holds_below is_pattern_child k f ≡ true → contains_expression f ≡ false → refers f ≡ false
+unread k nothing b q e h n = refl
+unread k (tree r k2 span text marks below id after) b q e h n =
+    let none : NoExpression r k2 (has_mark marks mark.Computed || key_refers below) below after = no_expression r k2 (has_mark marks mark.Computed || key_refers below) below after n in
     let forests : (is_ecmascript_forest below ≡ true) × (is_ecmascript_forest after ≡ true) = forests_plain _ below after e in
     let more : (holds_below is_pattern_child k2 below && holds_below is_pattern_child k after) ≡ true = and_second (is_pattern_child k r k2 text) (holds_below is_pattern_child k2 below && holds_below is_pattern_child k after) h in
-    let marked : (keys_are_marked below && keys_are_marked after) ≡ true = and_second (not (same_kind k2 kind.BindingProperty) || has_mark marks mark.Computed || not (key_refers below)) (keys_are_marked below && keys_are_marked after) m in
     let child : (is_apart k r || is_bound_part k2) ≡ true = rw b at (and_first (is_pattern_child k r k2 text) (holds_below is_pattern_child k2 below && holds_below is_pattern_child k after) h) in
-    let rest : refers after ≡ false = unread k after b (λ i. (or_none (same_role r role.Key && (same_kind k2 kind.IdentifierReference || refers below)) (key_refers after) (q i)).1) forests.1 (and_second (keys_are_marked below) (keys_are_marked after) marked) (and_second (holds_below is_pattern_child k2 below) (holds_below is_pattern_child k after) more) none.others in
+    let rest : refers after ≡ false = unread k after b (λ i. (or_none (same_role r role.Key && (same_kind k2 kind.IdentifierReference || refers below)) (key_refers after) (q i)).1) forests.1 (and_second (holds_below is_pattern_child k2 below) (holds_below is_pattern_child k after) more) none.others in
     elim (which k r k2 child none.no_initializer none.no_default (kind_here k2 r _ _ e)) [
       | inl key ↦ (let here : (same_role r role.Key && (same_kind k2 kind.IdentifierReference || refers below)) ≡ false = (or_none (same_role r role.Key && (same_kind k2 kind.IdentifierReference || refers below)) (key_refers after) (q key.0)).0 in
           let two : (same_kind k2 kind.IdentifierReference ≡ false) × (refers below ≡ false) = or_none (same_kind k2 kind.IdentifierReference) (refers below) (rw key.1 at here) in
           rw (two.0, two.1, rest) refl)
-      | inr binds ↦ (let quiet : HasQuietKey k2 below = quiet_key k2 (has_mark marks mark.Computed) below (and_first (not (same_kind k2 kind.BindingProperty) || has_mark marks mark.Computed || not (key_refers below)) (keys_are_marked below && keys_are_marked after) m) none.no_key in
-          let inner : refers below ≡ false = unread k2 below binds quiet forests.0 (and_first (keys_are_marked below) (keys_are_marked after) marked) (and_first (holds_below is_pattern_child k2 below) (holds_below is_pattern_child k after) more) none.inner in
+      | inr binds ↦ (let quiet : HasQuietKey k2 below = quiet_key k2 (has_mark marks mark.Computed) below none.no_key in
+          let inner : refers below ≡ false = unread k2 below binds quiet forests.0 (and_first (holds_below is_pattern_child k2 below) (holds_below is_pattern_child k after) more) none.inner in
           rw (binding_no_reference k2 binds, inner, rest) refl)
     ]

@@ -23,10 +23,9 @@ use Rattle.semantic_model.proofs.form.ParameterChains.{is_open_inside}
 use Rattle.semantic_model.proofs.steps.EachStep.{EachOfTurn, each_left, each_of_node, each_of_turn, turn_of_each}
 use Rattle.semantic_model.proofs.steps.Turn.{Turn, turn_at}
 use Rattle.semantic_model.proofs.steps.TurnCases.{opening_case, ending_case, last_case}
-use Rattle.tangle_model.specs.Surroundings.{in_with_under}
 use Rattle.walk_model.proofs.places.Shapes.{holds_below}
 use Rattle.language_ties.specs.EcmaScript.{is_ecmascript}
-use Rattle.language_ties.specs.Environments.{Environment, is_made_for, is_outside_body, has_parameter_expressions, made_by, environments, innermost, takes_variables, first_taking}
+use Rattle.language_ties.specs.Environments.{Environment, is_made_for, is_outside_body, has_parameter_expressions, is_body_of_with, made_by, environments, innermost, takes_variables, first_taking}
 use Rattle.language_ties.specs.Scopes.{Maker, maker_of_scope, maker_of_environment, has_scope, makers}
 use Rattle.language_ties.specs.declared.environment_kind.EnvironmentKind.{EnvironmentKind}
 use Rattle.language_ties.specs.declared.environment_kind.EnvironmentKind.TheVariants as environment
@@ -99,23 +98,16 @@ module _ (g : ℕ → Option Node) where
   abbrev HasSides : Place → Type 0
   HasSides q = Sides g q.chain (environments q.node q.path)
 
-  module _ (q c : Place) (apart : in_with_under c.path ≡ false) (path : c.path ≡ q.node ∷ q.path) (known : IsKnown q) (known_child : IsKnown c) (familiar : IsFamiliar g q)
+  module _ (q c : Place) (path : c.path ≡ q.node ∷ q.path) (known : IsKnown q) (known_child : IsKnown c) (familiar : IsFamiliar g q)
       (well : stands_well q.node.kind c.role c.node.kind [] ≡ true) (heads : heads_parameters q.node.kind c.role c.node.kind [] ≡ true) (no_identifier : is kind.BindingIdentifier c.node ≡ false) (before : HasSides q) where
     abbrev E : List Environment
     E = environments q.node q.path
 
-    apart_here : (is kind.WithStatement q.node || in_with_under q.path) ≡ false
-    apart_here = subst (λ l. in_with_under l ≡ false) path apart
-
     outer_round : map maker_of_scope q.chain ≡ makers E
-    outer_round = known.round (go (is kind.WithStatement q.node) (in_with_under q.path) apart_here)
-      where
-        go : (a b : Bool) → (a || b) ≡ false → b ≡ false
-        go true b w = absurd (never w)
-        go false b w = w
+    outer_round = known.round
 
     round : (k : AstType) → q.node.kind ≡ k → map maker_of_scope c.chain ≡ makers (made_by k q.node c.node ++ E)
-    round k w = known_child.round apart ∙ ap (λ l. makers (environments c.node l)) path ∙ ap (λ j. makers (made_by j q.node c.node ++ E)) w
+    round k w = known_child.round ∙ ap (λ l. makers (environments c.node l)) path ∙ ap (λ j. makers (made_by j q.node c.node ++ E)) w
 
     -- the parent makes none
     none_case : map maker_of_scope c.chain ≡ makers E → ChainOf q.node.kind c.role q.node q.chain c.chain → Sides g c.chain E
@@ -236,10 +228,9 @@ module _ (g : ℕ → Option Node) where
     if_case true m t = no_scope_sides (record { kind = environment.IfBody; maker = c.node.node_id }) c.chain E refl refl refl (none_case m t)
     if_case false m t = none_case m t
 
-    never_with : q.node.kind ≡ kind.WithStatement → ⊥
-    never_with w =
-        let there : is kind.WithStatement q.node ≡ true = subst (λ a. same_kind a kind.WithStatement ≡ true) (sym w) refl in
-        never (sym (ap (λ b. b || in_with_under q.path) there) ∙ apart_here)
+    with_case : (b : Bool) → map maker_of_scope c.chain ≡ makers (cond b (record { kind = environment.Object; maker = q.node.node_id } ∷ []) [] ++ E) → ChainOf q.node.kind c.role q.node q.chain c.chain → Sides g c.chain (cond b (record { kind = environment.Object; maker = q.node.node_id } ∷ []) [] ++ E)
+    with_case true m t = one_case (record { kind = environment.Object; maker = q.node.node_id }) refl refl m t
+    with_case false m t = none_case m t
 
     by_kind : (k : AstType) → q.node.kind ≡ k → ChainOf q.node.kind c.role q.node q.chain c.chain → Sides g c.chain (made_by k q.node c.node ++ E)
     by_kind kind.Program w t = one_case (record { kind = environment.Global; maker = q.node.node_id }) refl refl (round kind.Program w) t
@@ -254,7 +245,7 @@ module _ (g : ℕ → Option Node) where
     by_kind kind.ForOfStatement w t = one_case (record { kind = environment.Loop; maker = q.node.node_id }) refl refl (round kind.ForOfStatement w) t
     by_kind kind.CatchClause w t = one_case (record { kind = environment.Catch; maker = q.node.node_id }) refl refl (round kind.CatchClause w) t
     by_kind kind.Class w t = class_case (is kind.Decorator c.node) (round kind.Class w) t
-    by_kind kind.WithStatement w t = absurd (never_with w)
+    by_kind kind.WithStatement w t = with_case (is_body_of_with c.node) (round kind.WithStatement w) t
     by_kind _ w t = none_case (round _ w) t
 
     child_sides : ChainOf q.node.kind c.role q.node q.chain c.chain → HasSides c
@@ -263,13 +254,13 @@ module _ (g : ℕ → Option Node) where
   -- ---- all places
 
   abbrev pub SidesAt : Step → Type 0
-  SidesAt (entering q) = is kind.BindingIdentifier q.node ≡ false → in_with_under q.path ≡ false → HasSides q
+  SidesAt (entering q) = is kind.BindingIdentifier q.node ≡ false → HasSides q
   SidesAt (opening q o) = Unit {0}
   SidesAt (header_ending q o) = Unit {0}
   SidesAt (closing q o) = Unit {0}
   SidesAt (leaving q) = Unit {0}
 
-  sides_steps : (q : Place) (own : Option OpenScope) (n cursor : ℕ) (f : Forest) → (is kind.BindingIdentifier q.node ≡ false → in_with_under q.path ≡ false → HasSides q) → IsKnown q → IsFamiliar g q → OwnOf q own → holds_below heads_parameters q.node.kind f ≡ true
+  sides_steps : (q : Place) (own : Option OpenScope) (n cursor : ℕ) (f : Forest) → (is kind.BindingIdentifier q.node ≡ false → HasSides q) → IsKnown q → IsFamiliar g q → OwnOf q own → holds_below heads_parameters q.node.kind f ≡ true
       → EachStep KnownAt (steps_below q own n cursor f) → EachStep (FamiliarAt g) (steps_below q own n cursor f) → EachStep SidesAt (steps_below q own n cursor f)
   sides_steps q own n cursor nothing before known familiar o heads a b = last_case (EachStep SidesAt) q own n tt (tt, (tt, tt))
   sides_steps q own n cursor (tree r k2 span text marks below id after) before known familiar o heads a b =
@@ -284,8 +275,8 @@ module _ (g : ℕ → Option Node) where
       let no_identifier : is kind.BindingIdentifier q.node ≡ false = not-true (same_kind q.node.kind kind.BindingIdentifier) (and_first (not (same_kind q.node.kind kind.BindingIdentifier)) _ well) in
       let o_scope : OwnOf q turn.scope = own_of q r own n o in
       let chain : ChainOf q.node.kind r q.node q.chain turn.child.chain = chain_of q r turn.scope cursor node child_familiar.undecorated (is_open_inside q r own n) o_scope in
-      let child : is kind.BindingIdentifier node ≡ false → in_with_under (q.node ∷ q.path) ≡ false → HasSides turn.child =
-      λ i w. child_sides q turn.child w refl known child_known familiar well (and_first (heads_parameters q.node.kind r k2 text) (holds_below heads_parameters k2 below && holds_below heads_parameters q.node.kind after) heads) i (before no_identifier (with_outer (is kind.WithStatement q.node) (in_with_under q.path) w)) chain in
+      let child : is kind.BindingIdentifier node ≡ false → HasSides turn.child =
+      λ i. child_sides q turn.child refl known child_known familiar well (and_first (heads_parameters q.node.kind r k2 text) (holds_below heads_parameters k2 below && holds_below heads_parameters q.node.kind after) heads) i (before no_identifier) chain in
       each_of_turn SidesAt turn (record {
         before = opening_case (EachStep SidesAt) q r own n tt (tt, tt);
         whole = each_of_node SidesAt turn.child turn.below child
@@ -294,10 +285,6 @@ module _ (g : ℕ → Option Node) where
         behind = ending_case (EachStep SidesAt) q r turn.scope after tt (λ s. (tt, tt)) (λ s. (tt, tt)) (λ s. (tt, (tt, tt)));
         others = sides_steps q turn.scope turn.rest turn.past after before known familiar o_scope (and_second (holds_below heads_parameters k2 below) (holds_below heads_parameters q.node.kind after) more) knows.others sees.others;
       })
-    where
-      with_outer : (x y : Bool) → (x || y) ≡ false → y ≡ false
-      with_outer true y w = absurd (never w)
-      with_outer false y w = w
 
 pub sides_program : (p : Tree) → first_fault p ≡ None → is_ecmascript p ≡ true → IsNumbered p.root → EachStep (SidesAt (node_at p)) (steps p)
 sides_program p h e numbered =
@@ -307,6 +294,6 @@ sides_program p h e numbered =
     let known : EachStep KnownAt (steps p) = known_program p h e in
     let familiar : EachStep (FamiliarAt (node_at p)) (steps p) = familiar_program p h e numbered in
     let one : Sides (node_at p) [] [] = record { inner = record { outside = λ i. refl; inside = λ i f. absurd (never (sym i)) }; taking = tt } in
-    each_of_node (SidesAt (node_at p)) root below (λ i w. one)
-    (sides_steps (node_at p) root None 0 n p.root.children (λ i w. one) known.0 familiar.0 tt (tree_heads p h)
+    each_of_node (SidesAt (node_at p)) root below (λ i. one)
+    (sides_steps (node_at p) root None 0 n p.root.children (λ i. one) known.0 familiar.0 tt (tree_heads p h)
     (each_left KnownAt below (leaving root ∷ []) known.1) (each_left (FamiliarAt (node_at p)) below (leaving root ∷ []) familiar.1)) tt

@@ -9,8 +9,8 @@ use Rattle.semantic_model.specs.Declaration.{Declaration}
 use Rattle.semantic_model.specs.Entries.{Among}
 use Rattle.semantic_model.specs.Event.{declarations, events}
 use Rattle.semantic_model.specs.Step.{entering, steps}
-use Rattle.language_ties.specs.AgreeingNames.{IsPlainName, IsBoundOutsideWith}
-use Rattle.language_ties.specs.Bound.{Bound, is_bound_as, written}
+use Rattle.language_ties.specs.AgreeingNames.{IsPlainName}
+use Rattle.language_ties.specs.Bound.{Bound, is_bound_as}
 use Rattle.language_ties.specs.EcmaScript.{is_ecmascript}
 use Rattle.language_ties.specs.Environments.{Environment, is_made_for, has_parameter_expressions}
 use Rattle.language_ties.specs.declared.bound_as.BoundAs.TheVariants as bound
@@ -19,6 +19,7 @@ use Rattle.language_ties.proofs.agree.FamiliarPlaces.{IsFamiliar, FamiliarAt, fa
 use Rattle.language_ties.proofs.agree.KnownBounds.{KnownBound, known_bound, bodiless}
 use Rattle.language_ties.proofs.agree.KnownNodes.{node_at}
 use Rattle.language_ties.proofs.agree.MadeEnvironments.{may_make}
+use Rattle.language_ties.proofs.moved.Settled.{settled_bounds, no_function, unsettled}
 use Rattle.language_ties.proofs.own_names.OwnBounds.{IsOfExpression, OwnBound, own_bound, own_maker}
 use Rattle.language_ties.proofs.symbols.OneSymbol.{each_at}
 use Rattle.language_ties.proofs.symbols.ScopeOpeners.{openers, IsOpened}
@@ -26,15 +27,15 @@ use Rattle.language_ties.proofs.symbols.ScopeOpeners.{openers, IsOpened}
 never : true ≡ false → ⊥
 never h = absurd cc
 
-module _ (p : Tree) (h : first_fault p ≡ None) (e : is_ecmascript p ≡ true) (numbered : IsNumbered p.root) (x : Name) (none : IsBoundOutsideWith p x) (plain : IsPlainName p x) where
+module _ (p : Tree) (h : first_fault p ≡ None) (e : is_ecmascript p ≡ true) (numbered : IsNumbered p.root) (x : Name) (plain : IsPlainName p x) where
   -- declared, or the own name of an expression
   abbrev pub AnyBound : Bound → Type 0
-  AnyBound b = KnownBound p h e numbered x none plain b ⊎ OwnBound p h x b
+  AnyBound b = KnownBound p h e numbered x plain b ⊎ OwnBound p h x b
 
-  pub any_bound : (b : Bound) → Among b (written p.source_type (steps p)) → b.name ≡ x → AnyBound b
+  pub any_bound : (b : Bound) → Among b (settled_bounds p) → b.name ≡ x → AnyBound b
   any_bound b a n = elim (cases_Bool (is_bound_as bound.OwnName b)) [
-    | inl o ↦ inr (own_bound p h x b a n o)
-    | inr o ↦ inl (known_bound p h e numbered x none plain b a n o)
+    | inl o ↦ inr (own_bound p h x b (unsettled p b a (no_function b bound.OwnName o refl)) n o)
+    | inr o ↦ inl (known_bound p h e numbered x plain b a n o)
   ]
 
   -- ---- the declaration
@@ -48,7 +49,7 @@ module _ (p : Tree) (h : first_fault p ≡ None) (e : is_ecmascript p ≡ true) 
     pub bodiless : is_made_for environment.Catch b.environment ≡ false → declaration.route.target.body ≡ None
 
   pub is_declared : (b : Bound) → AnyBound b → IsDeclared b
-  is_declared b (inl k) = record { declaration = k.declares.declaration; among = k.declares.among; identifier = k.declares.identifier; opened = k.declares.opened; maker = k.declares.maker; bodiless = bodiless p h e numbered x none plain b k }
+  is_declared b (inl k) = record { declaration = k.declares.declaration; among = k.declares.among; identifier = k.declares.identifier; opened = k.declares.opened; maker = k.declares.maker; bodiless = bodiless p h e numbered x plain b k }
   is_declared b (inr o) = record {
     declaration = o.declaration;
     among = o.among;
@@ -58,7 +59,7 @@ module _ (p : Tree) (h : first_fault p ≡ None) (e : is_ecmascript p ≡ true) 
     bodiless = λ w. ap (λ s. s.body) o.target ∙ o.bodiless;
   }
 
-  pub declared_known : (b : Bound) (k : KnownBound p h e numbered x none plain b) → (is_declared b (inl k)).declaration ≡ k.declares.declaration
+  pub declared_known : (b : Bound) (k : KnownBound p h e numbered x plain b) → (is_declared b (inl k)).declaration ≡ k.declares.declaration
   unfolding is_declared
   declared_known b k = refl
 

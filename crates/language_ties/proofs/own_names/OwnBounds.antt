@@ -139,6 +139,7 @@ record DeclaresName (x : Node) (q : Place) (o : OpenScope) (n : Node) : Type 0 w
   named : declaration.naming.name ≡ n.text
   how : declaration.how ≡ plain
   target : declaration.route.target ≡ o
+  bare : declaration.route.passed ≡ []
   hidden : is_own_name declaration ≡ is kind.Function x
 
 declares_name : (q : Place) (o : OpenScope) (b : Bound) (k : IsNamed q.node b) → DeclaresName q.node q o k.identifier
@@ -156,6 +157,7 @@ declares_name q o b k = go k.sort
           named = refl;
           how = refl;
           target = refl;
+          bare = refl;
           hidden = rw k.expression (function_hidden (has mark.Declare q.node) false (is_special q.node)) ∙ sym (ap (λ i. same_kind i kind.Function) w);
         }
 
@@ -171,6 +173,7 @@ declares_name q o b k = go k.sort
           named = refl;
           how = refl;
           target = refl;
+          bare = refl;
           hidden = class_visible (has mark.Declare q.node) ∙ sym (ap (λ i. same_kind i kind.Function) w);
         }
 
@@ -186,6 +189,7 @@ module _ (p : Tree) (h : first_fault p ≡ None) (x : Name) where
     pub own : is_bound_as bound.OwnName b ≡ true
     pub place : Place
     pub entered : Among (entering place) (steps p)
+    pub binds : Among b (bound_by_node place.node.kind p.source_type place.node place.path)
     pub named_by : IsNamed place.node b
     pub scope : OpenScope
     pub opener : scope.opener ≡ place.node.node_id
@@ -197,6 +201,7 @@ module _ (p : Tree) (h : first_fault p ≡ None) (x : Name) where
     pub identifier : declaration.naming.identifier ≡ b.identifier
     pub how : declaration.how ≡ plain
     pub target : declaration.route.target ≡ scope
+    pub bare : declaration.route.passed ≡ []
     pub hidden : is_own_name declaration ≡ is kind.Function place.node
 
   -- what is declared plainly as a scope opens is declared
@@ -225,6 +230,7 @@ module _ (p : Tree) (h : first_fault p ≡ None) (x : Name) where
         own = own;
         place = q;
         entered = at.entered;
+        binds = at.binds;
         named_by = k;
         scope = s;
         opener = refl;
@@ -236,6 +242,7 @@ module _ (p : Tree) (h : first_fault p ≡ None) (x : Name) where
         identifier = d.identifier ∙ k.is;
         how = d.how;
         target = d.target;
+        bare = d.bare;
         hidden = d.hidden;
       }
 

@@ -33,7 +33,7 @@ use Rattle.language_ties.proofs.agree.KnownNodes.{node_in, node_at, or_node}
 
 -- ---- the children of a function
 
-nodes_append : (r : Role) (xs ys : List (Role × Node)) → nodes_in r (xs ++ ys) ≡ nodes_in r xs ++ nodes_in r ys
+pub nodes_append : (r : Role) (xs ys : List (Role × Node)) → nodes_in r (xs ++ ys) ≡ nodes_in r xs ++ nodes_in r ys
 nodes_append r [] ys = refl
 nodes_append r (c ∷ xs) ys = go (same_role c.0 r) (nodes_append r xs ys)
   where

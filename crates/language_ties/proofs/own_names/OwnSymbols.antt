@@ -1,5 +1,5 @@
 -- Of an own name, the scope that its expression opens has the symbol, unless what is declared there hides it.
-use Rattle.std.proofs.Common.{◌≡◌, ℕ, ◌<◌, List, [], ◌∷◌, Option, Some, None, true, false, inl, inr, length, refl, sym, ap, subst, ◌∙◌, arith}
+use Rattle.std.proofs.Common.{◌≡◌, ℕ, ◌<◌, List, [], ◌∷◌, Option, Some, None, true, false, inl, inr, length, sym, ap, subst, ◌∙◌, arith}
 use Rattle.std.specs.Prelude.{slice_get}
 use Rattle.std.proofs.lemmas.Option.{slice_get_within}
 use Rattle.semantic_kinds.specs.declared.kind.AstType.TheVariants as kind
@@ -25,18 +25,18 @@ use Rattle.semantic_model.specs.TablesOf.{tables_of, scopes, evals}
 use Rattle.semantic_model.proofs.fits.Outwards.{bound_as, scopes_length}
 use Rattle.semantic_model.proofs.fold.Orders.{table_of}
 use Rattle.walk_model.proofs.once.NamesInRole.{AtMostOne}
-use Rattle.language_ties.specs.AgreeingNames.{IsPlainName, IsBoundOutsideWith}
-use Rattle.language_ties.specs.Bound.{Bound, is_bound_as, written}
+use Rattle.language_ties.specs.AgreeingNames.{IsPlainName}
+use Rattle.language_ties.specs.Bound.{Bound, is_bound_as}
 use Rattle.language_ties.specs.EcmaScript.{is_ecmascript}
 use Rattle.language_ties.specs.SharedSymbols.{AllKeepClear, ShareSymbols, HasHomesSymbol, IsDeclaredAt}
 use Rattle.language_ties.specs.declared.bound_as.BoundAs.TheVariants as bound
 use Rattle.language_ties.proofs.UndeclaredNames.{each_identifier}
 use Rattle.language_ties.proofs.agree.EnteredOnce.{entered_once}
 use Rattle.language_ties.proofs.agree.FamiliarPlaces.{IsFamiliar, FamiliarAt, familiar_program}
-use Rattle.language_ties.proofs.agree.KnownBounds.{some_is}
 use Rattle.language_ties.proofs.agree.KnownNodes.{node_at}
 use Rattle.language_ties.proofs.clear.SingleNames.{identifier_of, same_declaration, declared_once}
 use Rattle.language_ties.proofs.caught.CaughtBounds.{made_where, not_taken, no_block}
+use Rattle.language_ties.proofs.moved.Settled.{settled, settled_bounds, settled_name, settled_identifier, settled_among}
 use Rattle.language_ties.proofs.own_names.AnyBounds.{AnyBound, any_bound, IsDeclared, is_declared}
 use Rattle.language_ties.proofs.own_names.OwnBounds.{OwnBound, own_maker}
 use Rattle.language_ties.proofs.own_names.OwnIds.{named_once}
@@ -63,7 +63,7 @@ one_name p h e numbered x c b v k q f =
     let there : Among v.named_by.identifier (names_at role.Id k.place.node) = subst (λ (z : Place). Among v.named_by.identifier (names_at role.Id z.node)) places v.named_by.among in
     sym v.named_by.is ∙ ap (λ z. z.node_id) (same_of_one (names_at role.Id k.place.node) v.named_by.identifier k.named_by.identifier once there k.named_by.among) ∙ k.named_by.is
 
-module _ (p : Tree) (h : first_fault p ≡ None) (e : is_ecmascript p ≡ true) (numbered : IsNumbered p.root) (x : Name) (none : IsBoundOutsideWith p x) (clear : AllKeepClear x (declarations (events (steps p)))) (plain : IsPlainName p x) where
+module _ (p : Tree) (h : first_fault p ≡ None) (e : is_ecmascript p ≡ true) (numbered : IsNumbered p.root) (x : Name) (clear : AllKeepClear x (declarations (events (steps p)))) (plain : IsPlainName p x) where
   abbrev table : List (Option ℕ)
   table = table_of p
 
@@ -71,7 +71,7 @@ module _ (p : Tree) (h : first_fault p ≡ None) (e : is_ecmascript p ≡ true) 
   final = run start (events (steps p))
 
   abbrev ws : List Bound
-  ws = written p.source_type (steps p)
+  ws = settled_bounds p
 
   abbrev shared : ShareSymbols p x
   shared = share_symbols p h e x clear
@@ -127,22 +127,22 @@ module _ (p : Tree) (h : first_fault p ≡ None) (e : is_ecmascript p ≡ true) 
         let (y, g) = binds_some b k q (ap (λ i. same_kind i kind.Function) f) in
         let there : reading.bound_in (tables_of p) s.number x ≡ Some y = bound_as p s.number x in_range ∙ g in
         let w : IsDeclaredAt p x s.number y = shared.bound s.number y there in
-        let (c, a, n, i) = each_identifier p.source_type x (λ j. (c : Bound) × Among c ws × (c.name ≡ x) × (c.identifier ≡ j)) p h e (λ c a n. (c, a, n, refl)) w.declaration w.among w.named in
-        let same : c.identifier ≡ b.identifier = by c a n (any_bound p h e numbered x none plain c a n) y w i in
+        let (c, a, n, i) = each_identifier p.source_type x (λ j. (c : Bound) × Among c ws × (c.name ≡ x) × (c.identifier ≡ j)) p h e (λ c a n. (settled c, settled_among p c a, settled_name c ∙ n, settled_identifier c)) w.declaration w.among w.named in
+        let same : c.identifier ≡ b.identifier = by c a n (any_bound p h e numbered x plain c a n) y w i in
         record { symbol = y; bound = g; is = subst (λ j. symbol_at (analysis_of p) j ≡ Some y) (sym i ∙ same) (symbol_is p w.declaration.naming.identifier y h numbered w.is) }
       where
         -- the scope is that of the declaration
-        opener_of : (c : Bound) (v : AnyBound p h e numbered x none plain c) (y : ℕ) (w : IsDeclaredAt p x s.number y) → c.identifier ≡ w.declaration.naming.identifier → c.environment.maker ≡ s.opener
+        opener_of : (c : Bound) (v : AnyBound p h e numbered x plain c) (y : ℕ) (w : IsDeclaredAt p x s.number y) → c.identifier ≡ w.declaration.naming.identifier → c.environment.maker ≡ s.opener
         opener_of c v y w i =
-            let d : IsDeclared p h e numbered x none plain c = is_declared p h e numbered x none plain c v in
+            let d : IsDeclared p h e numbered x plain c = is_declared p h e numbered x plain c v in
             let one : identifier_of w.declaration ≡ identifier_of d.declaration = sym i ∙ sym d.identifier in
             let same : w.declaration ≡ d.declaration = same_declaration w.declaration d.declaration (declarations (events (steps p))) w.among d.among one (declared_once p (identifier_of w.declaration) h numbered) in
-            elim (made_where p h e numbered x none plain c v s o (ap home (sym same) ∙ w.stands)) [
+            elim (made_where p h e numbered x plain c v s o (ap home (sym same) ∙ w.stands)) [
               | inl i ↦ i
               | inr i ↦ absurd (not_taken p numbered k.place k.entered (no_block k.place (ap (λ z. same_kind z kind.BlockStatement) f)) s o q c i)
             ]
 
-        by : (c : Bound) → Among c ws → c.name ≡ x → (v : AnyBound p h e numbered x none plain c) → (y : ℕ) (w : IsDeclaredAt p x s.number y) → c.identifier ≡ w.declaration.naming.identifier → c.identifier ≡ b.identifier
+        by : (c : Bound) → Among c ws → c.name ≡ x → (v : AnyBound p h e numbered x plain c) → (y : ℕ) (w : IsDeclaredAt p x s.number y) → c.identifier ≡ w.declaration.naming.identifier → c.identifier ≡ b.identifier
         by c a n (inl v) y w i = absurd (apart c a n v.no_own (opener_of c (inl v) y w i))
         by c a n (inr v) y w i =
             one_name p h e numbered x c b v k (sym (own_maker p h x c v) ∙ opener_of c (inr v) y w i ∙ q) f

@@ -28,7 +28,7 @@ use Rattle.semantic_model.proofs.form.Shape.{has_form}
 use Rattle.semantic_model.proofs.lists.Members.{among_left, among_right}
 use Rattle.language_ties.specs.Bound.{Bound, bound_identifier, bound_by_node, is_bound_as}
 use Rattle.language_ties.specs.EcmaScript.{is_ecmascript_kind, is_ecmascript}
-use Rattle.language_ties.specs.OneSymbol.{IsBoundByNode, EnvironmentsHaveOneSymbol}
+use Rattle.language_ties.specs.OneSymbol.{IsBoundByNode, HaveOneSymbol, EnvironmentsHaveOneSymbol}
 use Rattle.language_ties.specs.SharedSymbols.{is_own_name, HasHomesSymbol, ShareSymbols}
 use Rattle.language_ties.specs.ToldNames.{told_by_declaration, told_by_bound, Declares}
 use Rattle.language_ties.specs.declared.bound_as.BoundAs.TheVariants as bound
@@ -135,14 +135,17 @@ module _ (p : Tree) (h : first_fault p ≡ None) (e : is_ecmascript p ≡ true) 
     pub place : Place
     pub entered : Among (entering place) (steps p)
     pub told : Among declaration (declared_on_entering place)
-    pub binds : Among b (bound_by_node place.node.kind p.source_type place.node place.path)
-    pub unmoved : declaration.how ≡ moved → ⊥
     pub bodied : IsOwn (table_of p) place.chain declaration.route.target
+
+  -- the place binds it, and it doesn't move
+  pub record StaysThere (b : Bound) (d : DeclarationOf b) : Type 0 where
+    pub binds : Among b (bound_by_node d.place.node.kind p.source_type d.place.node d.place.path)
+    pub unmoved : d.declaration.how ≡ moved → ⊥
 
   known_at : (q : Place) → Among (entering q) (steps p) → IsKnown q
   known_at q a = each_at KnownAt (steps p) (entering q) (known_program p h e) a
 
-  plain_at : (q : Place) → Among (entering q) (steps p) → IsPlainPlace q
+  pub plain_at : (q : Place) → Among (entering q) (steps p) → IsPlainPlace q
   plain_at q a = each_at IsEcmaScriptAt (steps p) (entering q) (ecmascript_program p h form.root e) a
 
   -- where no function leaves its block, nothing moves
@@ -151,44 +154,50 @@ module _ (p : Tree) (h : first_fault p ≡ None) (e : is_ecmascript p ≡ true) 
       let known : IsKnown c.place = known_at c.place c.entered in
       let strict : Strict p.source_type c.place = each_at (StrictAt p.source_type) (steps p) (entering c.place) (strict_program p h e) c.entered in
       let stays : StaysInBlock p.source_type c.place.node c.place.path = stays_in_block p.source_type c.place.node c.place.path k t c.no_leaving in
-      never (sym z ∙ stays_there p.source_type c.place known c.apart_from_with strict k stays))
+      never (sym z ∙ stays_there p.source_type c.place known strict k stays))
     where
       never : true ≡ false → ⊥
       never i = absurd cc
 
-  pub declaration_of : (b : Bound) → IsBoundByNode p b → b.name ≡ x → DeclarationOf b
+  pub entered_chain : (q : Place) (ss : List Step) → EachStep (IsStepIn (table_of p)) ss → Among (entering q) ss → AllInTable (table_of p) q.chain
+  entered_chain q ss k a = each_at (IsStepIn (table_of p)) ss (entering q) k a
+
+  -- what is told on entering a place, and placed as it is told
+  unfoldable pub declared_there : (b : Bound) (q : Place) → Among (entering q) (steps p) → (d : Declaration) → Among d (declared_on_entering q) → placed ds d ≡ d → d.naming.name ≡ x → d.naming.identifier ≡ b.identifier → d.route.target.opener ≡ b.environment.maker → DeclarationOf b
+  declared_there b q entered d a stays named identifier maker =
+      let plain_place : IsPlainPlace q = plain_at q entered in
+      let event : Among (declares d) (events_of ds (entering q)) = subst (λ i. Among (declares i) (events_of ds (entering q))) stays (of_map (λ i. declares (placed ds i)) (declared_on_entering q) d a) in
+      let chain_in : AllInTable (table_of p) q.chain = entered_chain q (steps p) (steps_in p form) entered in
+      let opened : AllOpened (openers (steps p)) q.chain = each_at (IsPlaceOpened (openers (steps p))) (steps p) (entering q) (places_opened p) entered in
+      record {
+        declaration = d;
+        among = of_flat declared (events (steps p)) (declares d) d (of_flat (events_of ds) (steps p) (entering q) (declares d) entered event) (inl refl);
+        named = named;
+        identifier = identifier;
+        visible = declared_at (λ i. is_own_name i ≡ false) (declared_on_entering q) d (entering_visible q.node.kind q plain_place plain_place.node.of_kind) a;
+        opened = declared_at (λ i. IsOpened (openers (steps p)) i.route.target) (declared_on_entering q) d (targets_opened (openers (steps p)) (root_opener p form.root numbered) q opened) a;
+        maker = maker;
+        place = q;
+        entered = entered;
+        told = a;
+        bodied = declared_at (λ i. IsOwn (table_of p) q.chain i.route.target) (declared_on_entering q) d (entering_own (table_of p) q.node.kind q chain_in) a;
+        entry = (declared_at (IsDeclaredIn (table_of p) (root_body p form)) (declared_on_entering q) d (entering_in (table_of p) (root_body p form) q.node.kind q chain_in) a).target.entry;
+      }
+
+  pub declaration_of : (b : Bound) → IsBoundByNode p b → b.name ≡ x → (d : DeclarationOf b) × StaysThere b d
+  unfolding declared_there
   declaration_of b c n =
       let q : Place = c.place in
       let own : OpenScope = opened_scope q 0 in
       let known : IsKnown q = known_at q c.entered in
-      let plain_place : IsPlainPlace q = plain_at q c.entered in
       let told : map told_by_declaration (declared_on_opening q own ++ declared_on_entering q) ≡ map told_by_bound (bound_by_node q.node.kind p.source_type q.node q.path) =
-      each_at (Declares p.source_type) (steps p) (entering q) (declarations_are_bound p h e) c.entered c.apart_from_with c.no_leaving in
+      each_at (Declares p.source_type) (steps p) (entering q) (declarations_are_bound p h e) c.entered c.no_leaving in
       let empty : declared_on_opening q own ≡ [] = none_inside p.source_type q own b q.node.kind known.ecmascript c.binds c.no_own_name in
       let (d, a, t) = told_too (declared_on_entering q) (bound_by_node q.node.kind p.source_type q.node q.path) (subst (λ os. map told_by_declaration (os ++ declared_on_entering q) ≡ map told_by_bound (bound_by_node q.node.kind p.source_type q.node q.path)) empty told) b c.binds in
-      let stays : placed ds d ≡ d = placed_stays ds d.how d refl (declared_at (λ i. i.how ≡ moved → ⊥) (declared_on_entering q) d (unmoved b c) a) in
-      let event : Among (declares d) (events_of ds (entering q)) = subst (λ i. Among (declares i) (events_of ds (entering q))) stays (of_map (λ i. declares (placed ds i)) (declared_on_entering q) d a) in
-      let chain_in : AllInTable (table_of p) q.chain = entered_chain q (steps p) (steps_in p form) c.entered in
-      let opened : AllOpened (openers (steps p)) q.chain = each_at (IsPlaceOpened (openers (steps p))) (steps p) (entering q) (places_opened p) c.entered in
-      record {
-        declaration = d;
-        among = of_flat declared (events (steps p)) (declares d) d (of_flat (events_of ds) (steps p) (entering q) (declares d) c.entered event) (inl refl);
-        named = ap (λ i. i.name) t ∙ n;
-        identifier = ap (λ i. i.identifier) t;
-        visible = declared_at (λ i. is_own_name i ≡ false) (declared_on_entering q) d (entering_visible q.node.kind q plain_place plain_place.node.of_kind) a;
-        opened = declared_at (λ i. IsOpened (openers (steps p)) i.route.target) (declared_on_entering q) d (targets_opened (openers (steps p)) (root_opener p form.root numbered) q opened) a;
-        maker = ap (λ i. i.maker) t;
-        place = q;
-        entered = c.entered;
-        told = a;
-        binds = c.binds;
-        unmoved = declared_at (λ i. i.how ≡ moved → ⊥) (declared_on_entering q) d (unmoved b c) a;
-        bodied = declared_at (λ i. IsOwn (table_of p) q.chain i.route.target) (declared_on_entering q) d (entering_own (table_of p) q.node.kind q chain_in) a;
-        entry = (declared_at (IsDeclaredIn (table_of p) (root_body p form)) (declared_on_entering q) d (entering_in (table_of p) (root_body p form) q.node.kind q chain_in) a).target.entry;
-      }
-    where
-      entered_chain : (q : Place) (ss : List Step) → EachStep (IsStepIn (table_of p)) ss → Among (entering q) ss → AllInTable (table_of p) q.chain
-      entered_chain q ss k a = each_at (IsStepIn (table_of p)) ss (entering q) k a
+      let stays : placed ds d ≡ d = placed_stays ds d.how d refl (declared_at (λ i. i.how ≡ moved → ⊥) (declared_on_entering q) d (unmoved b c) a) in (
+        declared_there b q c.entered d a stays (ap (λ i. i.name) t ∙ n) (ap (λ i. i.identifier) t) (ap (λ i. i.maker) t),
+        record { binds = c.binds; unmoved = declared_at (λ i. i.how ≡ moved → ⊥) (declared_on_entering q) d (unmoved b c) a },
+      )
 
   same_home : (b c : Bound) (d : DeclarationOf b) (f : DeclarationOf c) → b.environment.maker ≡ c.environment.maker → home d.declaration ≡ home f.declaration
   same_home b c d f q =
@@ -200,10 +209,9 @@ module _ (p : Tree) (h : first_fault p ≡ None) (e : is_ecmascript p ≡ true) 
   abbrev bound_in_tables : ℕ → Name → Option ℕ
   bound_in_tables k y = reading.bound_in (tables_of p) k y
 
-  pub one_symbol : ShareSymbols p x → EnvironmentsHaveOneSymbol p x
-  one_symbol shared b c i j n m q =
-      let d : DeclarationOf b = declaration_of b i n in
-      let f : DeclarationOf c = declaration_of c j m in
+  -- those of one maker's environments share it
+  pub share_symbol : ShareSymbols p x → (b c : Bound) (d : DeclarationOf b) (f : DeclarationOf c) → b.environment.maker ≡ c.environment.maker → HaveOneSymbol p b c
+  share_symbol shared b c d f q =
       let s : HasHomesSymbol p d.declaration = shared.share d.declaration d.among d.named d.visible in
       let t : HasHomesSymbol p f.declaration = shared.share f.declaration f.among f.named f.visible in
       let there : bound_in_tables (home d.declaration) x ≡ Some s.symbol = subst (λ y. bound_in_tables (home d.declaration) y ≡ Some s.symbol) d.named s.bound in
@@ -215,3 +223,6 @@ module _ (p : Tree) (h : first_fault p ≡ None) (e : is_ecmascript p ≡ true) 
         first = subst (λ k. symbol_at (analysis_of p) k ≡ Some s.symbol) d.identifier (symbol_is p d.declaration.naming.identifier s.symbol h numbered s.declared);
         second = subst (λ k. symbol_at (analysis_of p) k ≡ Some s.symbol) f.identifier (symbol_is p f.declaration.naming.identifier s.symbol h numbered (subst (λ k. Among (record { node = f.declaration.naming.identifier; number = k }) (node_tables (steps p)).symbols) (sym same) t.declared));
       }
+
+  pub one_symbol : ShareSymbols p x → EnvironmentsHaveOneSymbol p x
+  one_symbol shared b c i j n m q = share_symbol shared b c (declaration_of b i n).0 (declaration_of c j m).0 q

@@ -1,6 +1,5 @@
 -- A `var` that passes a clause whose plain parameter has its name is noted with that name, and tangles it.
-use Rattle.std.proofs.Common.{◌≡◌, ℕ, ◌==◌, List, [], ◌∷◌, ◌++◌, Option, Some, None, Bool, true, false, ◌&&◌, ◌||◌, not, cond, map, flat_map, filter, if◌then◌else◌, inl, inr, ◌⊎◌, refl, sym, ap, subst, ◌∙◌, bytes_eq, codes}
-use Rattle.std.specs.List.{list_any}
+use Rattle.std.proofs.Common.{◌≡◌, ℕ, ◌==◌, List, [], ◌∷◌, ◌++◌, None, Bool, true, false, ◌&&◌, ◌||◌, not, cond, map, flat_map, filter, if◌then◌else◌, inl, inr, refl, sym, ap, subst, ◌∙◌, bytes_eq, codes}
 use Rattle.std.proofs.lemmas.Bool.{and_from}
 use Rattle.std.proofs.lemmas.Bool.Decides.{eqb_tells}
 use Rattle.semantic_kinds.specs.Classes.{holds_kind}
@@ -21,36 +20,34 @@ use Rattle.semantic_model.specs.Cursor.{on_entering}
 use Rattle.semantic_model.specs.Entries.{Among}
 use Rattle.semantic_model.specs.Names.{bound_names, bound_below, names_at}
 use Rattle.semantic_model.specs.Place.{Place}
-use Rattle.semantic_model.specs.Step.{Step, entering, steps}
-use Rattle.semantic_model.specs.TablesOf.{tables_of}
+use Rattle.semantic_model.specs.Step.{entering, steps}
 use Rattle.semantic_model.proofs.form.Clauses.{kind_is}
 use Rattle.semantic_model.proofs.lists.Members.{among_left, among_right}
 use Rattle.semantic_model.proofs.once.ListedUnder.{name_tells}
 use Rattle.program_laws.proofs.DeclaredNodes.{among_map, among_flat}
 use Rattle.tangle_model.specs.Mention.{Mention, same_declarer, noted_if, identifier_noted, noted_by, noted_at, mentions}
-use Rattle.tangle_model.specs.Repeated.{Key, same_key, is_mention_of, key_of, keys_of, key_stands}
-use Rattle.tangle_model.specs.Surroundings.{is_home, home_under, in_catch_under, in_with_under, declarer_in, declarer_under, around_under}
-use Rattle.tangle_model.specs.Tangled.{meets_catch_name, any_mention, tangle_reasons}
+use Rattle.tangle_model.specs.Repeated.{same_key, is_mention_of, key_of, keys_of, key_stands}
+use Rattle.tangle_model.specs.Surroundings.{home_under, in_catch_under, in_with_under, declarer_in, declarer_under, around_under}
+use Rattle.tangle_model.specs.Tangled.{meets_catch_name, any_mention}
 use Rattle.tangle_model.specs.declared.around.Around.{Around}
 use Rattle.tangle_model.specs.declared.around.Declarer.{Declarer}
 use Rattle.tangle_model.specs.declared.around.Declarer.TheVariants as declarer
 use Rattle.tangle_model.specs.declared.reason.Reason.TheVariants as reason
 use Rattle.tangle_model.specs.declared.what.What.TheVariants as what
-use Rattle.language_ties.specs.AgreeingNames.{IsBoundPlainly, IsPlainName}
 use Rattle.language_ties.specs.Bound.{Bound, bound_identifier, bound_here, bound_outward, bound_by_declarator, bound_by_declaration, bound_by_function, bound_by_class, bound_by_catch, bound_by_node, is_block_function, is_bound_as, written}
 use Rattle.language_ties.specs.EcmaScript.{is_ecmascript}
 use Rattle.language_ties.specs.Environments.{Environment, made_by, environments, innermost, passed, variable_environment}
 use Rattle.language_ties.specs.declared.bound_as.BoundAs.TheVariants as way
 use Rattle.language_ties.specs.declared.environment_kind.EnvironmentKind.TheVariants as environment
-use Rattle.language_ties.proofs.agree.FamiliarPlaces.{AllKnown, IsFamiliar, FamiliarAt, familiar_program}
+use Rattle.language_ties.proofs.agree.FamiliarPlaces.{IsFamiliar, FamiliarAt, familiar_program}
 use Rattle.language_ties.proofs.agree.KnownNodes.{node_at}
 use Rattle.language_ties.proofs.agree.PlainBounds.{IsBoundAt, bound_at_place}
 use Rattle.language_ties.proofs.caught.CaughtNames.{catch_environment, catch_kind}
 use Rattle.language_ties.proofs.caught.InClauses.{IsInClause, in_clause}
 use Rattle.language_ties.proofs.symbols.OneSymbol.{of_map, of_flat, each_at}
-use Rattle.language_ties.proofs.tangled.NamePlaces.{is_inner_pattern, holds_names, Reaches, IsNamePlace, names_below, IsEnteredAs, AllEnteredAs, IsAmidSteps, AmidAt, amid_program, NamesStandAt, stand_program}
+use Rattle.language_ties.proofs.tangled.NamePlaces.{is_inner_pattern, holds_names, Reaches, IsNamePlace, names_below, IsAmidSteps, AmidAt, amid_program, NamesStandAt, stand_program}
 use Rattle.language_ties.proofs.tangled.PassedClauses.{IsHeldBy, held_by}
-use Rattle.language_ties.proofs.tangled.Untangled.{any_of, holds_not}
+use Rattle.language_ties.proofs.tangled.Untangled.{NoneButWith, any_of, holds_not}
 
 never : true ≡ false → ⊥
 never h = absurd cc
@@ -93,12 +90,12 @@ inner_clause kind.BindingProperty h = refl
 inner_clause kind.BindingRestElement h = refl
 inner_clause _ h = absurd (never (sym h))
 
-reached_declarer : (path goal : List Node) → Reaches path goal → declarer_under path ≡ declarer_under goal
+pub reached_declarer : (path goal : List Node) → Reaches path goal → declarer_under path ≡ declarer_under goal
 reached_declarer [] goal h = ap declarer_under h
 reached_declarer (x ∷ path) goal (inl h) = ap declarer_under h
 reached_declarer (x ∷ path) goal (inr h) = inner_declarer x.kind x (declarer_under path) h.0 ∙ reached_declarer path goal h.1
 
-reached_home : (path goal : List Node) → Reaches path goal → home_under path ≡ home_under goal
+pub reached_home : (path goal : List Node) → Reaches path goal → home_under path ≡ home_under goal
 reached_home [] goal h = ap home_under h
 reached_home (x ∷ path) goal (inl h) = ap home_under h
 reached_home (x ∷ path) goal (inr h) = ap (λ b. cond b x.node_id (home_under path)) (inner_home x.kind h.0) ∙ reached_home path goal h.1
@@ -182,7 +179,7 @@ module _ (s : SourceType) (x : Node) (path : List Node) (c : Bound) where
 
 -- ---- what the parameter of a clause binds stands below it
 
-in_below : (f : Forest) (m n : Node) → Among m (children_of role.Pattern f) → Among n (bound_names m) → Among n (bound_below kind.CatchParameter f)
+pub in_below : (f : Forest) (m n : Node) → Among m (children_of role.Pattern f) → Among n (bound_names m) → Among n (bound_below kind.CatchParameter f)
 in_below nothing m n a b = absurd a
 in_below (tree r k span text marks below id after) m n a b = go (same_role r role.Pattern) a (λ i. in_below after m n i b)
   where
@@ -201,7 +198,7 @@ module _ (p : Tree) (h : first_fault p ≡ None) (e : is_ecmascript p ≡ true) 
   familiar_at q a = each_at (FamiliarAt (node_at p)) (steps p) (entering q) (familiar_program p h e numbered) a
 
   -- an identifier below a place that holds names
-  name_place : (q : Place) → Among (entering q) (steps p) → holds_names q.node.kind ≡ true → (i : Node) → Among i (bound_below q.node.kind q.node.children) → IsNamePlace (steps p) (q.node ∷ q.path) i
+  pub name_place : (q : Place) → Among (entering q) (steps p) → holds_names q.node.kind ≡ true → (i : Node) → Among i (bound_below q.node.kind q.node.children) → IsNamePlace (steps p) (q.node ∷ q.path) i
   name_place q a k i b =
       let amid : IsAmidSteps (steps p) q = each_at (AmidAt (steps p)) (steps p) (entering q) (amid_program p) a in
       let stands_well : NamesStandAt (entering q) = each_at NamesStandAt (steps p) (entering q) (stand_program p h) a in
@@ -262,7 +259,7 @@ module _ (p : Tree) (h : first_fault p ≡ None) (e : is_ecmascript p ≡ true) 
 
   -- ---- the name
 
-  module _ (name : Name) (untangled : tangle_reasons p name ≡ []) (b c : Bound) (b_among : Among b (written p.source_type (steps p))) (c_among : Among c (written p.source_type (steps p))) (b_named : b.name ≡ name) (c_named : c.name ≡ name) (caught : is_bound_as way.CatchName b ≡ true) (var : is_bound_as way.Var c ≡ true) (passes : Among b.environment c.passed) where
+  module _ (name : Name) (untangled : NoneButWith p name) (b c : Bound) (b_among : Among b (written p.source_type (steps p))) (c_among : Among c (written p.source_type (steps p))) (b_named : b.name ≡ name) (c_named : c.name ≡ name) (caught : is_bound_as way.CatchName b ≡ true) (var : is_bound_as way.Var c ≡ true) (passes : Among b.environment c.passed) where
     at_name : IsBoundAt p.source_type (steps p) b
     at_name = bound_at_place p.source_type (steps p) b b_among
 
@@ -363,9 +360,3 @@ module _ (p : Tree) (h : first_fault p ≡ None) (e : is_ecmascript p ≡ true) 
         let tangled : any_mention (meets_catch_name (mentions p)) (mentions p) name ≡ true =
         met name y z (variable_noted y variable_place.identifier variable_place.entered variable_declarer variable_catch) (name_noted z name_at.identifier name_at.entered name_declarer) y_text z_text (variable_home ∙ sym name_home) in
         never (sym tangled ∙ holds_not p name untangled reason.CatchVariable (inr (inl refl)))
-
--- ---- what is plain by what the name's being untangled leaves out
-
-module _ (p : Tree) (h : first_fault p ≡ None) (e : is_ecmascript p ≡ true) (numbered : IsNumbered p.root) (name : Name) (untangled : tangle_reasons p name ≡ []) (each : IsBoundPlainly p name) where
-  pub plain_name : IsPlainName p name
-  plain_name = record { each = each; unpassed = λ b c i j n m k var passes. passes_not p h e numbered name untangled b c i j n m k var passes }

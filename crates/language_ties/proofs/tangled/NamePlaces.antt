@@ -1,4 +1,4 @@
--- The identifiers that a declarator or the parameter of a clause binds are entered, and only patterns stand between.
+-- The identifiers that a declarator or a parameter binds are entered, and only patterns stand between.
 use Rattle.std.proofs.Common.{◌≡◌, ℕ, List, [], ◌∷◌, ◌++◌, Option, None, Bool, true, false, ◌&&◌, ◌||◌, not, cond, inl, inr, ◌⊎◌, refl, sym, ap, subst, ◌∙◌}
 use Rattle.std.specs.List.{list_all}
 use Rattle.semantic_syntax.proofs.Truth.{and_first, and_second}
@@ -40,7 +40,7 @@ abbrev pub is_inner_pattern : AstType → Bool
 is_inner_pattern k = holds_kind (kind.ObjectPattern ∷ kind.ArrayPattern ∷ kind.AssignmentPattern ∷ kind.BindingProperty ∷ kind.BindingRestElement ∷ []) k
 
 abbrev pub holds_names : AstType → Bool
-holds_names k = holds_kind (kind.VariableDeclarator ∷ kind.CatchParameter ∷ kind.ObjectPattern ∷ kind.ArrayPattern ∷ kind.AssignmentPattern ∷ kind.BindingProperty ∷ kind.BindingRestElement ∷ []) k
+holds_names k = holds_kind (kind.VariableDeclarator ∷ kind.CatchParameter ∷ kind.FormalParameter ∷ kind.FormalParameterRest ∷ kind.ObjectPattern ∷ kind.ArrayPattern ∷ kind.AssignmentPattern ∷ kind.BindingProperty ∷ kind.BindingRestElement ∷ []) k
 
 inner_holds : (k : AstType) → is_inner_pattern k ≡ true → holds_names k ≡ true
 inner_holds kind.ObjectPattern h = refl

@@ -5,9 +5,8 @@ use Rattle.semantic_kinds.specs.Classes.{holds_kind}
 use Rattle.semantic_kinds.specs.Kinds.{same_kind}
 use Rattle.semantic_kinds.specs.declared.kind.AstType.{AstType}
 use Rattle.semantic_kinds.specs.declared.kind.AstType.TheVariants as kind
-use Rattle.semantic_kinds.specs.declared.role.Role.TheVariants as role
 use Rattle.semantic_tree.specs.Tree.{Tree, IsNumbered}
-use Rattle.semantic_tree.specs.Views.{is, is_child_in}
+use Rattle.semantic_tree.specs.Views.{is}
 use Rattle.semantic_tree.specs.declared.node.Node.{Node}
 use Rattle.semantic_model.specs.Binder.{is_statement}
 use Rattle.semantic_model.specs.Entries.{Among}
@@ -15,7 +14,7 @@ use Rattle.semantic_model.specs.Place.{Place}
 use Rattle.semantic_model.specs.Step.{entering, steps}
 use Rattle.tangle_model.specs.Surroundings.{is_home, home_under, in_catch_under}
 use Rattle.language_ties.specs.EcmaScript.{is_ecmascript_kind}
-use Rattle.language_ties.specs.Environments.{Environment, has_parameter_expressions, is_outside_body, made_by, environments, passed, takes_variables}
+use Rattle.language_ties.specs.Environments.{Environment, has_parameter_expressions, is_outside_body, is_body_of_with, made_by, environments, passed, takes_variables}
 use Rattle.language_ties.specs.declared.environment_kind.EnvironmentKind.{EnvironmentKind}
 use Rattle.language_ties.specs.declared.environment_kind.EnvironmentKind.TheVariants as environment
 use Rattle.language_ties.proofs.agree.EnteredOnce.{entered_once}
@@ -116,7 +115,7 @@ module _ (p : Tree) (numbered : IsNumbered p.root) (clause : Place) (entered : A
     by_kind kind.ForOfStatement w i a = further x path (home_is kind.ForOfStatement w) (later (either environment.Loop x.node_id no_loop a))
     by_kind kind.CatchClause w i a = at_clause w a
     by_kind kind.Class w i a = further x path (home_is kind.Class w) (later (unless (is kind.Decorator child) x.node_id a))
-    by_kind kind.WithStatement w i a = further x path (home_is kind.WithStatement w) (later (maybe (is_child_in role.Body x child) environment.Object x.node_id refl no_object a))
+    by_kind kind.WithStatement w i a = further x path (home_is kind.WithStatement w) (later (maybe (is_body_of_with child) environment.Object x.node_id refl no_object a))
     by_kind kind.TSModuleBlock w i a = absurd (never (sym i))
     by_kind _ w i a = further x path (home_is _ w) (later a)
 

@@ -46,18 +46,67 @@ any_of test (y ∷ xs) x (inr a) h = or_second (test y) (list_any test xs) (any_
     or_second true c w = refl
     or_second false c w = w
 
-module _ (p : Tree) (name : Name) (untangled : tangle_reasons p name ≡ []) where
-  -- none of the reasons holds
-  pub holds_not : (r : Reason) → Among r all_reasons → holds_in p.source_type (mentions p) (tables_of p) r name ≡ false
-  holds_not r a = filtered_out (λ r. holds_in p.source_type (mentions p) (tables_of p) r name) all_reasons r untangled a
+-- all reasons but that a name stands in a `with`
+abbrev pub other_reasons : List Reason
+other_reasons = reason.BlockFunction ∷ reason.CatchVariable ∷ reason.Arguments ∷ reason.Eval ∷ reason.FreeNamesake ∷ reason.MergedMember ∷ reason.NamespaceNamesake ∷ []
+
+-- none of these holds of the name
+abbrev pub NoneButWith : Tree → Name → Type 0
+NoneButWith p name = filter (λ r. holds_in p.source_type (mentions p) (tables_of p) r name) other_reasons ≡ []
+
+module _ (p : Tree) (name : Name) (others : NoneButWith p name) where
+  pub holds_not : (r : Reason) → Among r other_reasons → holds_in p.source_type (mentions p) (tables_of p) r name ≡ false
+  holds_not r a = filtered_out (λ r. holds_in p.source_type (mentions p) (tables_of p) r name) other_reasons r others a
 
   -- it isn't `arguments`
   pub no_arguments : bytes_eq name (codes "arguments") ≡ false
   no_arguments = holds_not reason.Arguments (inr (inr (inl refl)))
 
-  -- and nothing of it is noted that stands in a `with`
+-- a reason that is told where it holds
+abbrev told_if : Bool → Reason → List Reason → List Reason
+told_if b r rs = cond b (r ∷ rs) rs
+
+-- where none is told, no other is
+none_told : (b c a w : Bool) (rs : List Reason) → told_if b reason.BlockFunction (told_if c reason.CatchVariable (told_if a reason.Arguments (told_if w reason.With rs))) ≡ [] → told_if b reason.BlockFunction (told_if c reason.CatchVariable (told_if a reason.Arguments rs)) ≡ []
+none_told true c a w rs h = absurd (not_empty reason.BlockFunction _ h)
+none_told false true a w rs h = absurd (not_empty reason.CatchVariable _ h)
+none_told false false true w rs h = absurd (not_empty reason.Arguments _ h)
+none_told false false false true rs h = absurd (not_empty reason.With rs h)
+none_told false false false false rs h = h
+
+-- nor where that one is told alone
+never_last : (e f m n : Bool) → told_if e reason.Eval (told_if f reason.FreeNamesake (told_if m reason.MergedMember (told_if n reason.NamespaceNamesake []))) ≡ reason.With ∷ [] → ⊥
+never_last true f m n h = absurd cc
+never_last false true m n h = absurd cc
+never_last false false true n h = absurd cc
+never_last false false false true h = absurd cc
+never_last false false false false h = absurd cc
+
+one_told : (b c a w : Bool) (rs : List Reason) → (rs ≡ reason.With ∷ [] → ⊥) → told_if b reason.BlockFunction (told_if c reason.CatchVariable (told_if a reason.Arguments (told_if w reason.With rs))) ≡ reason.With ∷ [] → told_if b reason.BlockFunction (told_if c reason.CatchVariable (told_if a reason.Arguments rs)) ≡ []
+one_told true c a w rs n h = absurd cc
+one_told false true a w rs n h = absurd cc
+one_told false false true w rs n h = absurd cc
+one_told false false false true rs n h = cc
+one_told false false false false rs n h = absurd (n h)
+
+module _ (p : Tree) (name : Name) where
+  abbrev holds : Reason → Bool
+  holds r = holds_in p.source_type (mentions p) (tables_of p) r name
+
+  abbrev later_reasons : List Reason
+  later_reasons = filter holds (reason.Eval ∷ reason.FreeNamesake ∷ reason.MergedMember ∷ reason.NamespaceNamesake ∷ [])
+
+  -- of a name that isn't tangled, and of one that is only by this reason
+  pub none_but_with : tangle_reasons p name ≡ [] → NoneButWith p name
+  none_but_with h = none_told (holds reason.BlockFunction) (holds reason.CatchVariable) (holds reason.Arguments) (holds reason.With) later_reasons h
+
+  pub with_alone : tangle_reasons p name ≡ reason.With ∷ [] → NoneButWith p name
+  with_alone h = one_told (holds reason.BlockFunction) (holds reason.CatchVariable) (holds reason.Arguments) (holds reason.With) later_reasons (never_last (holds reason.Eval) (holds reason.FreeNamesake) (holds reason.MergedMember) (holds reason.NamespaceNamesake)) h
+
+module _ (p : Tree) (name : Name) (untangled : tangle_reasons p name ≡ []) where
+  -- nothing of it is noted that stands in a `with`
   not_in_with : any_mention is_in_with (mentions p) name ≡ false
-  not_in_with = holds_not reason.With (inr (inr (inr (inl refl))))
+  not_in_with = filtered_out (λ r. holds_in p.source_type (mentions p) (tables_of p) r name) all_reasons reason.With untangled (inr (inr (inr (inl refl))))
 
   noted_in_with : (q : Place) → is kind.IdentifierReference q.node ≡ true → in_with_under q.path ≡ true → Among (record { what = what.InWith; home = home_under q.path; name = q.node.text }) (noted_at p.source_type (entering q))
   noted_in_with q k w = subst (λ j. Among (record { what = what.InWith; home = home_under q.path; name = q.node.text }) (noted_by j (around_under p.source_type q.path) q.node)) (sym (kind_is q.node.kind kind.IdentifierReference k)) (by w)

@@ -20,14 +20,13 @@ use Rattle.semantic_model.proofs.form.Clauses.{kind_is}
 use Rattle.semantic_model.proofs.swapped.Alike.{is_name}
 use Rattle.semantic_model.proofs.swapped.AlikeCursor.{with_text, SameNode}
 use Rattle.semantic_model.proofs.swapped.AlikeScopes.{re, AlikePath, first_same, word_same}
-use Rattle.semantic_model.proofs.swapped.AlikeProgram.{Keeps}
 use Rattle.semantic_model.proofs.swapped.AlikeNames.{Changed, bound_changed, simple_same}
 
 -- a declaration whose name is changed
 abbrev pub renamed_declaration : (Name → Name) → Declaration → Declaration
 renamed_declaration f d = record d { naming = record d.naming { name = f d.naming.name } }
 
-module _ (f : Name → Name) (keeps : Keeps f) where
+module _ (f : Name → Name) where
   -- declarations with changed names
   abbrev pub ren : List Declaration → List Declaration
   ren ds = map (renamed_declaration f) ds

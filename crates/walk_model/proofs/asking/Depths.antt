@@ -19,10 +19,10 @@ use Rattle.semantic_model.specs.Hoist.{run}
 use Rattle.semantic_syntax.specs.Lookup.{probes_in}
 use Rattle.semantic_syntax.specs.Outcome.{last_outcome}
 use Rattle.semantic_model.specs.Outward.{depth}
-use Rattle.semantic_model.specs.TablesOf.{entry_of, tables_of}
+use Rattle.semantic_model.specs.TablesOf.{entry_of, tables_of, numbers}
 use Rattle.semantic_model.specs.Tie.{ties, answer, answers}
 use Rattle.walk_model.specs.WalkState.{WalkState, nothing_made}
-use Rattle.walk_model.specs.Walks.{after_all, walked, numbers}
+use Rattle.walk_model.specs.Walks.{after_all, walked}
 use Rattle.walk_model.proofs.refers.GivesTables.{gives_tables}
 use Rattle.walk_model.proofs.places.Grounds.{all_grounded}
 use Rattle.walk_model.proofs.places.Nested.{IsChain, AreNested, AreLinked, Descends, chain_more, open_past, open_after, seen_past, seen_after, seen_extends}

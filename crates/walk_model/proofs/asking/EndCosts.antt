@@ -16,7 +16,7 @@ use Rattle.semantic_syntax.specs.Lookup.{Lookup, tied, barred, unanswered, looku
 use Rattle.semantic_model.specs.Tie.{Tie, until_end_of}
 use Rattle.semantic_syntax.specs.Outcome.{Pending, Outcome, is_free, waits, up_to, answer as source_answer, outcome_or, waits_outside, header_outcome, header_probes, last_probes}
 use Rattle.walk_model.specs.WalkState.{WalkState}
-use Rattle.walk_model.specs.Walks.{numbers}
+use Rattle.semantic_model.specs.TablesOf.{numbers}
 use Rattle.walk_model.proofs.places.Nested.{Descends}
 use Rattle.walk_model.proofs.headers.Headed.{AllLess}
 use Rattle.walk_model.proofs.refers.Lookups.{answered_in, lookup_alike}

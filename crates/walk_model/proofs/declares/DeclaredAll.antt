@@ -11,13 +11,13 @@ use Rattle.semantic_model.specs.Step.{Step, entering, opening, header_ending, cl
 use Rattle.semantic_model.specs.Event.{events}
 use Rattle.semantic_model.specs.Fold.{State, Made, start}
 use Rattle.semantic_model.specs.Hoist.{run}
-use Rattle.semantic_model.specs.TablesOf.{evals, opened_entry, scopes}
+use Rattle.semantic_model.specs.TablesOf.{evals, opened_entry, scopes, numbers}
 use Rattle.semantic_model.proofs.fold.Changes.{Sound, HasName}
 use Rattle.semantic_model.proofs.lists.SymbolLaws.{get_within}
 use Rattle.semantic_model.proofs.fold.Orders.{sound_program}
 use Rattle.semantic_model.proofs.form.Shape.{has_form}
 use Rattle.walk_model.specs.WalkState.{WalkState}
-use Rattle.walk_model.specs.Walks.{numbers, walked}
+use Rattle.walk_model.specs.Walks.{walked}
 use Rattle.walk_model.specs.Noted.{with_entry}
 use Rattle.walk_model.specs.Agreement.{HasDeclared}
 use Rattle.walk_model.proofs.shows.Represents.{Represents, with_noted}

@@ -20,6 +20,7 @@ use Rattle.semantic_model.specs.Hoist.{declare_by, run}
 use Rattle.semantic_syntax.specs.Outcome.{header_outcome, last_outcome}
 use Rattle.semantic_syntax.proofs.Truth.{and_first}
 use Rattle.semantic_model.proofs.steps.Compose.{run-append}
+use Rattle.semantic_model.specs.TablesOf.{numbers}
 use Rattle.walk_model.specs.WalkState.{WalkState, nothing_made}
 use Rattle.walk_model.specs.Opens.{open_scope}
 use Rattle.walk_model.specs.Walks as walk
@@ -119,7 +120,7 @@ pub step_as : (ds : List Declaration) (w : WalkState) (st : State) (stack : List
 step_as ds w st stack seen (entering p) nested g h =
     entering_as (length seen) ds (walk.prepare w (entering p)) st p g nested.descends (represents_entering (length seen) w st p h)
 step_as ds w st stack seen (opening p s) nested g h =
-    let more : suc (length seen) ≡ length (seen ++ walk.numbers p.chain ∷ []) = omega (arith, length-append seen (walk.numbers p.chain ∷ [])) in
+    let more : suc (length seen) ≡ length (seen ++ numbers p.chain ∷ []) = omega (arith, length-append seen (numbers p.chain ∷ [])) in
     subst (λ n. Represents n (walk.after ds w (opening p s)) (run st (events_of ds (opening p s)))) more
     (opening_as (length seen) ds w st p s (ap (λ o. o.number) nested.1) g nested.0.descends h)
 step_as ds w st stack seen (header_ending p s) nested g h = represents_settle (length seen) w st (header_outcome (source_of w.tables) s.number) h

@@ -28,7 +28,7 @@ use Rattle.semantic_model.proofs.lists.BindingLaws.{get_among}
 use Rattle.semantic_model.proofs.lists.Bounds.{get_below}
 use Rattle.semantic_model.proofs.once.UseLists.{IsBelow}
 use Rattle.semantic_model.proofs.form.Clauses.{kind_is}
-use Rattle.walk_model.specs.Walks.{numbers}
+use Rattle.semantic_model.specs.TablesOf.{numbers}
 use Rattle.walk_model.proofs.places.Nested.{Descends, AreOpen, IsNestedStep, AreNested, open_past, seen_past, seen_longer}
 use Rattle.walk_model.proofs.places.Routes.{grounded, HasVar, entering_goes, opening_goes}
 use Rattle.walk_model.proofs.places.Grounds.{IsGrounded, IsStepGrounded, AllGrounded}

@@ -6,6 +6,7 @@ use Rattle.std.proofs.lemmas.Bool.{cases_Bool}
 use Rattle.std.proofs.lemmas.Bool.Decides.{eqb_tells}
 use Rattle.semantic_tree.specs.Forest.{Forest, nothing, tree}
 use Rattle.semantic_tree.specs.declared.node.Node.{Node}
+use Rattle.semantic_kinds.specs.Kinds.{same_kind}
 use Rattle.semantic_kinds.specs.Roles.{same_role}
 use Rattle.semantic_kinds.specs.declared.kind.AstType.{AstType}
 use Rattle.semantic_kinds.specs.declared.kind.AstType.TheVariants as kind
@@ -18,9 +19,11 @@ use Rattle.semantic_model.specs.Place.{Place, OpenScope, is_strict}
 use Rattle.semantic_model.specs.Inside.{opens, is_inside, any_inside, header_roles, is_in_header}
 use Rattle.semantic_model.specs.ScopeKind.{strict_if, accessor, value_of, method_flags, flags_of_kind, opened_scope}
 use Rattle.semantic_model.specs.Declaration.{first_with}
+use Rattle.semantic_model.specs.Entries.{Among}
 use Rattle.semantic_syntax.specs.Members.{contains}
 use Rattle.semantic_model.specs.Binder.{is_var}
 use Rattle.semantic_model.specs.Step.{Step, entering, opening, header_ending, closing, leaving, opening_at, ending_after, opening_last, scope_at}
+use Rattle.semantic_model.proofs.form.Clauses.{kind_is}
 use Rattle.semantic_model.proofs.steps.Opened.{openings}
 use Rattle.walk_model.proofs.places.Nested.{IsInnermost}
 use Rattle.walk_model.proofs.headers.NoStatements.{is_closed, is_bound}
@@ -63,6 +66,11 @@ abbrev pub AllMatch : List ℕ → List OpenScope → Type 0
 AllMatch awaiting [] = Unit {0}
 AllMatch awaiting (s ∷ ss) = (s.in_header ≡ contains awaiting s.number) × AllMatch awaiting ss
 
+pub match_among : (awaiting : List ℕ) (chain : List OpenScope) (s : OpenScope) → AllMatch awaiting chain → Among s chain → s.in_header ≡ contains awaiting s.number
+match_among awaiting [] s h a = absurd a
+match_among awaiting (x ∷ xs) s h (inl e) = subst (λ (o : OpenScope). o.in_header ≡ contains awaiting o.number) e h.0
+match_among awaiting (x ∷ xs) s h (inr a) = match_among awaiting xs s h.1 a
+
 -- the next function's scope, or the like, was opened after the scope
 pub record VarAbove (c : ℕ) (chain : List OpenScope) : Type 0 where
   pub next : OpenScope
@@ -90,9 +98,13 @@ first_most c cs x l h = elim (eqb_tells c x) [ inl q ↦ omega (arith, q.1) | in
 
 pub record IsHeadedPlace (awaiting fs : List ℕ) (p : Place) : Type 0 where
   pub flagged : AreFlagged fs p.chain
-  pub matches : is kind.IdentifierReference p.node ≡ true → AllMatch awaiting p.chain
+  pub matches : is kind.BindingIdentifier p.node ≡ false → AllMatch awaiting p.chain
   pub sheltered : IsSheltered awaiting p
   pub older : AllLess awaiting (length fs)
+
+-- a reference is no name that is bound
+pub reference_matches : (awaiting fs : List ℕ) (p : Place) → IsHeadedPlace awaiting fs p → is kind.IdentifierReference p.node ≡ true → AllMatch awaiting p.chain
+reference_matches awaiting fs p h e = h.matches (ap (λ k. same_kind k kind.BindingIdentifier) (kind_is p.node.kind kind.IdentifierReference e))
 
 abbrev pub IsHeadedStep : List ℕ → List ℕ → Step → Type 0
 IsHeadedStep awaiting fs (entering p) = IsHeadedPlace awaiting fs p

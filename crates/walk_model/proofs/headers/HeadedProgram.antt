@@ -68,7 +68,7 @@ child_part : (awaiting fs : List ℕ) (child : Place) (n c : ℕ) (below : Fores
     → (AllMatch awaiting child.chain → LeadsOn awaiting awaiting fs (steps_below child None n c below)) → Child awaiting fs child (steps_below child None n c below)
 child_part awaiting fs child n c below f s l (inl m) rest = record { place = record { flagged = f; matches = λ e. m; sheltered = s; older = l }; below = rest m }
 child_part awaiting fs child n c below f s l (inr b) rest = record {
-  place = record { flagged = f; matches = λ e. let q : false ≡ true = rw b.0 at e in absurd cc; sheltered = s; older = l };
+  place = record { flagged = f; matches = λ e. let q : true ≡ false = rw b.0 at e in absurd cc; sheltered = s; older = l };
   below = name_leads child n c below awaiting fs b.0 b.1;
 }
 

@@ -6,8 +6,7 @@ use Rattle.std.proofs.lemmas.Bool.Decides.{eqb_tells}
 use Rattle.semantic_model.specs.Place.{OpenScope}
 use Rattle.semantic_syntax.specs.Members.{contains}
 use Rattle.semantic_syntax.proofs.Truth.{or_assoc, or_false, and_false}
-use Rattle.semantic_model.specs.TablesOf.{any_holds}
-use Rattle.walk_model.specs.Walks.{numbers}
+use Rattle.semantic_model.specs.TablesOf.{any_holds, numbers}
 use Rattle.walk_model.proofs.places.Nested.{AreLinked, Extends, get_more}
 
 abbrev pub reaches : List ℕ → List ℕ → ℕ → Bool

@@ -7,6 +7,7 @@ use Rattle.semantic_model.specs.Naming.{Naming}
 use Rattle.semantic_model.specs.Declaration.{How, plain, hoisted, moved, caught, Declaration, stands_in}
 use Rattle.semantic_model.specs.Event.{Event, declares, takes_over, ends_header}
 use Rattle.semantic_model.specs.Hoist.{PassedSymbol}
+use Rattle.semantic_model.specs.TablesOf.{numbers}
 use Rattle.walk_model.specs.WalkState.{WalkState}
 use Rattle.walk_model.specs.Declares as writes
 use Rattle.walk_model.specs.Hoists as reaches
@@ -124,7 +125,7 @@ declare_untouched w s d =
 
 by_untouched : (how : How) (w : WalkState) (d : Declaration) → Untouched w (walk.declare_by how w d)
 by_untouched plain w d = declare_untouched w d.route.target.number d.naming
-by_untouched hoisted w d = hoist_untouched w (walk.numbers d.route.passed) d.route.target.number d.naming
+by_untouched hoisted w d = hoist_untouched w (numbers d.route.passed) d.route.target.number d.naming
 by_untouched moved w d =
     then_untouched w (writes.declare w (stands_in d) d.naming) (walk.declare_by moved w d) (declare_untouched w (stands_in d) d.naming)
     (out_untouched (writes.declare w (stands_in d) d.naming) (stands_in d) d.route.target.number (writes.symbol_in w (stands_in d) d.naming) d.naming.name)

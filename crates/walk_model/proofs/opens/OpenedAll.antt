@@ -12,7 +12,7 @@ use Rattle.semantic_model.specs.Step.{Step, entering, opening, header_ending, cl
 use Rattle.semantic_model.specs.Cursor.{on_entering}
 use Rattle.semantic_model.specs.Declaration.{Declaration}
 use Rattle.semantic_model.specs.Event.{written_declarations}
-use Rattle.semantic_model.specs.TablesOf.{is_direct_eval, evals, opened_entry, scopes, any_holds}
+use Rattle.semantic_model.specs.TablesOf.{is_direct_eval, evals, opened_entry, scopes, any_holds, numbers}
 use Rattle.semantic_model.specs.NodeTable.{numbered_from}
 use Rattle.semantic_syntax.specs.Outcome.{last_outcome}
 use Rattle.walk_model.specs.WalkState.{WalkState, nothing_made}
@@ -31,8 +31,8 @@ pub calls_are : (calls : List (List ℕ)) (ss : List Step) → calls_after calls
 calls_are calls [] = sym (append-nil calls)
 calls_are calls (entering p ∷ ss) = go (is_direct_eval p.node) (λ c. calls_are c ss)
   where
-    go : (b : Bool) → ((c : List (List ℕ)) → calls_after c ss ≡ c ++ evals ss) → calls_after (cond b (calls ++ walk.numbers p.chain ∷ []) calls) ss ≡ calls ++ cons_option (cond b (Some (walk.numbers p.chain)) None) (evals ss)
-    go true rest = rest (calls ++ walk.numbers p.chain ∷ []) ∙ append_assoc calls (walk.numbers p.chain ∷ []) (evals ss)
+    go : (b : Bool) → ((c : List (List ℕ)) → calls_after c ss ≡ c ++ evals ss) → calls_after (cond b (calls ++ numbers p.chain ∷ []) calls) ss ≡ calls ++ cons_option (cond b (Some (numbers p.chain)) None) (evals ss)
+    go true rest = rest (calls ++ numbers p.chain ∷ []) ∙ append_assoc calls (numbers p.chain ∷ []) (evals ss)
     go false rest = rest calls
 calls_are calls (opening p s ∷ ss) = calls_are calls ss
 calls_are calls (header_ending p s ∷ ss) = calls_are calls ss
@@ -66,9 +66,9 @@ head_parent calls p s n rest e = go p.chain refl
 scopes_listed : (calls : List (List ℕ)) (stack : List ℕ) (seen : List (List ℕ)) (n : ℕ) (ss : List Step) → length seen ≡ n → AreNested stack seen ss → filter_map (opened_entry calls) ss ≡ flagged (any_holds calls) n (opened_bare ss)
 scopes_listed calls stack seen n [] e h = refl
 scopes_listed calls stack seen n (opening p s ∷ ss) e h =
-    let longer : length (seen ++ walk.numbers p.chain ∷ []) ≡ suc n = omega (arith, length-append seen (walk.numbers p.chain ∷ []), e) in
+    let longer : length (seen ++ numbers p.chain ∷ []) ≡ suc n = omega (arith, length-append seen (numbers p.chain ∷ []), e) in
     head_parent calls p s n (filter_map (opened_entry calls) ss) (ap (λ o. o.number) h.0.1 ∙ e)
-    ∙ ap (λ l. with_flag (any_holds calls n) (bare_entry p s) ∷ l) (scopes_listed calls (s.number ∷ stack) (seen ++ walk.numbers p.chain ∷ []) (suc n) ss longer h.1)
+    ∙ ap (λ l. with_flag (any_holds calls n) (bare_entry p s) ∷ l) (scopes_listed calls (s.number ∷ stack) (seen ++ numbers p.chain ∷ []) (suc n) ss longer h.1)
 scopes_listed calls stack seen n (entering p ∷ ss) e h = scopes_listed calls (open_past stack (entering p)) seen n ss e h.1
 scopes_listed calls stack seen n (header_ending p s ∷ ss) e h = scopes_listed calls (open_past stack (header_ending p s)) seen n ss e h.1
 scopes_listed calls stack seen n (closing p s ∷ ss) e h = scopes_listed calls (open_past stack (closing p s)) seen n ss e h.1

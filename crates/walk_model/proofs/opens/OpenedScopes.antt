@@ -19,7 +19,7 @@ use Rattle.semantic_syntax.specs.Members.{contains}
 use Rattle.semantic_model.specs.Step.{Step, entering, opening, header_ending, closing, leaving}
 use Rattle.semantic_model.specs.Binder.{declared_on_entering, declared_on_opening}
 use Rattle.semantic_model.specs.Event.{Event, takes_over, declares_all, taken_over, is_catch_body, events_of}
-use Rattle.semantic_model.specs.TablesOf.{is_direct_eval}
+use Rattle.semantic_model.specs.TablesOf.{is_direct_eval, numbers}
 use Rattle.semantic_model.specs.NodeTable.{Belongs, numbered_from}
 use Rattle.semantic_syntax.specs.Outcome.{Pending, Outcome, header_outcome}
 use Rattle.walk_model.specs.WalkState.{WalkState}
@@ -51,7 +51,7 @@ bare_after bare [] = bare
 bare_after bare (s ∷ more) = bare_after (bare_past bare s) more
 
 abbrev pub calls_past : List (List ℕ) → Step → List (List ℕ)
-calls_past calls (entering p) = cond (is_direct_eval p.node) (calls ++ walk.numbers p.chain ∷ []) calls
+calls_past calls (entering p) = cond (is_direct_eval p.node) (calls ++ numbers p.chain ∷ []) calls
 calls_past calls (opening p s) = calls
 calls_past calls (header_ending p s) = calls
 calls_past calls (closing p s) = calls
@@ -112,15 +112,15 @@ as_many (b ∷ bare) [] e = absurd cc
 as_many (b ∷ bare) (x ∷ seen) e = let q : map (λ (f : Scope). f.parent) bare ≡ map head_of seen = cc in omega (arith, as_many bare seen q)
 
 note_call : (stack : List ℕ) (seen calls : List (List ℕ)) (bare : List Scope) (v : WalkState) (s : OpenScope) (ss : List OpenScope) → IsChain stack seen (s ∷ ss) → ShowsScopes stack seen calls bare v
-    → ShowsScopes stack seen (calls ++ walk.numbers (s ∷ ss) ∷ []) bare (add_eval v s.number)
+    → ShowsScopes stack seen (calls ++ numbers (s ∷ ss) ∷ []) bare (add_eval v s.number)
 note_call stack seen calls bare v s ss k h = record {
   scopes = ap (λ es. slice_set es s.number (with_eval (slice_index_or es s.number no_scope))) h.scopes
       ∙ flagged_set (reached stack calls) 0 s.number s.number bare (omega arith)
-      ∙ flagged_same (λ c. reached stack calls c || s.number == c) (reached stack (calls ++ walk.numbers (s ∷ ss) ∷ [])) 0 bare
-      (λ c l. sym (reached-push stack calls (walk.numbers (s ∷ ss)) c ∙ ap (λ b. reached stack calls c || b) (reaches_open stack s.number (walk.numbers ss) c k.are_open.0)));
+      ∙ flagged_same (λ c. reached stack calls c || s.number == c) (reached stack (calls ++ numbers (s ∷ ss) ∷ [])) 0 bare
+      (λ c l. sym (reached-push stack calls (numbers (s ∷ ss)) c ∙ ap (λ b. reached stack calls c || b) (reaches_open stack s.number (numbers ss) c k.are_open.0)));
   parents = h.parents;
   clean = h.clean;
-  linked = linked-push seen calls (walk.numbers (s ∷ ss)) h.linked (linked_numbers seen (s ∷ ss) k.are_linked);
+  linked = linked-push seen calls (numbers (s ∷ ss)) h.linked (linked_numbers seen (s ∷ ss) k.are_linked);
   frames = h.frames;
   nodes = h.nodes;
 }
@@ -132,11 +132,11 @@ noted : (stack : List ℕ) (seen calls : List (List ℕ)) (bare : List Scope) (v
     → ShowsScopes stack seen (calls_past calls (entering p)) bare (note_eval v p)
 noted stack seen calls bare v p g k h = go (is_direct_eval p.node) refl g
   where
-    solid : (chain : List OpenScope) → p.chain ≡ chain → HasVar chain → IsChain stack seen chain → ShowsScopes stack seen (calls ++ walk.numbers chain ∷ []) bare (add_eval v (scope_of_place p))
+    solid : (chain : List OpenScope) → p.chain ≡ chain → HasVar chain → IsChain stack seen chain → ShowsScopes stack seen (calls ++ numbers chain ∷ []) bare (add_eval v (scope_of_place p))
     solid [] e f i = absurd (f refl)
     solid (s ∷ ss) e f i = rw e (note_call stack seen calls bare v s ss i h)
 
-    go : (b : Bool) → is_direct_eval p.node ≡ b → IsGrounded p → ShowsScopes stack seen (cond b (calls ++ walk.numbers p.chain ∷ []) calls) bare (cond b (add_eval v (scope_of_place p)) v)
+    go : (b : Bool) → is_direct_eval p.node ≡ b → IsGrounded p → ShowsScopes stack seen (cond b (calls ++ numbers p.chain ∷ []) calls) bare (cond b (add_eval v (scope_of_place p)) v)
     go true e (inl f) = solid p.chain refl f k
     go true e (inr f) = let q : false ≡ true = sym (no_call_at_root p f) ∙ e in absurd cc
     go false e f = h
@@ -149,11 +149,11 @@ entered stack seen calls bare w p g k h = noted stack seen calls bare (note_refe
     go true = same_scopes stack seen calls bare w (refer w p) refl refl h
     go false = h
 
-head_number : (chain : List OpenScope) → innermost_number chain ≡ head_of (walk.numbers chain)
+head_number : (chain : List OpenScope) → innermost_number chain ≡ head_of (numbers chain)
 head_number [] = refl
 head_number (s ∷ ss) = refl
 
-head_open : (stack : List ℕ) (chain : List OpenScope) → AreOpen stack chain → IsHeadOpen stack (walk.numbers chain)
+head_open : (stack : List ℕ) (chain : List OpenScope) → AreOpen stack chain → IsHeadOpen stack (numbers chain)
 head_open stack [] h = tt
 head_open stack (s ∷ ss) h = h.0
 
@@ -175,11 +175,11 @@ length_nodes [] = refl
 length_nodes (e ∷ es) = omega (arith, length_nodes es)
 
 opened : (stack : List ℕ) (seen calls : List (List ℕ)) (bare : List Scope) (w : WalkState) (p : Place) (s : OpenScope) → s.number ≡ length seen → IsClean s.flags → IsChain stack seen p.chain → ShowsScopes stack seen calls bare w
-    → ShowsScopes (s.number ∷ stack) (seen ++ walk.numbers p.chain ∷ []) calls (bare ++ bare_entry p s ∷ []) (open_scope w p s)
+    → ShowsScopes (s.number ∷ stack) (seen ++ numbers p.chain ∷ []) calls (bare ++ bare_entry p s ∷ []) (open_scope w p s)
 opened stack seen calls bare w p s e f k h =
-    let new : List (List ℕ) = seen ++ walk.numbers p.chain ∷ [] in
+    let new : List (List ℕ) = seen ++ numbers p.chain ∷ [] in
     let count : length bare ≡ length seen = as_many bare seen h.parents in
-    let longer : Extends seen new = record { added = walk.numbers p.chain ∷ []; is = refl } in
+    let longer : Extends seen new = record { added = numbers p.chain ∷ []; is = refl } in
     let beyond : length seen ≤ s.number = omega arith in
     let none : reached (s.number ∷ stack) calls (0 + length bare) ≡ false =
     subst (λ n. reached (s.number ∷ stack) calls n ≡ false) (omega arith) (reached_none (s.number ∷ stack) seen s.number calls beyond h.linked) in
@@ -189,10 +189,10 @@ opened stack seen calls bare w p s e f k h =
       scopes = ap (λ es. es ++ bare_entry p s ∷ []) (h.scopes ∙ flagged_same (reached stack calls) (reached (s.number ∷ stack) calls) 0 bare (λ c l. sym (reached_new stack seen s.number calls c beyond h.linked)))
           ∙ ap (λ x. flagged (reached (s.number ∷ stack) calls) 0 bare ++ x ∷ []) (sym (ap (λ b. with_flag b (bare_entry p s)) none ∙ unflagged (bare_entry p s)))
           ∙ sym (flagged-push (reached (s.number ∷ stack) calls) 0 bare (bare_entry p s));
-      parents = map-append (λ x. x.parent) bare (bare_entry p s ∷ []) ∙ (λ i. h.parents i ++ head_number p.chain i ∷ []) ∙ sym (map-append head_of seen (walk.numbers p.chain ∷ []));
+      parents = map-append (λ x. x.parent) bare (bare_entry p s ∷ []) ∙ (λ i. h.parents i ++ head_number p.chain i ∷ []) ∙ sym (map-append head_of seen (numbers p.chain ∷ []));
       clean = clean-push bare (bare_entry p s) h.clean f;
       linked = all_linked_longer seen new calls longer h.linked;
-      frames = (record { around = walk.numbers p.chain; is = get_end seen (walk.numbers p.chain) s.number (sym e); next = head_open stack p.chain k.are_open; apart = frames_apart seen stack s.number beyond h.frames }, frames_longer seen new stack longer h.frames);
+      frames = (record { around = numbers p.chain; is = get_end seen (numbers p.chain) s.number (sym e); next = head_open stack p.chain k.are_open; apart = frames_apart seen stack s.number beyond h.frames }, frames_longer seen new stack longer h.frames);
       nodes = ap (λ es. with_entry es (record { node = s.opener; number = s.number })) h.nodes
           ∙ sym (entries-push (numbered_from 0 nodes) (record { node = s.opener; number = s.number }))
           ∙ ap (λ n. entries_of (numbered_from 0 nodes ++ record { node = s.opener; number = n } ∷ [])) (sym node_number)
@@ -278,7 +278,7 @@ scopes_step ds w stack seen calls bare (entering p) k g h =
 scopes_step ds w stack seen calls bare (opening p s) k g h =
     let v : WalkState = walk.prepare w (opening p s) in
     let u : Untouched v (walk.after ds w (opening p s)) = acts_untouched v (events_of ds (opening p s)) (opening_declares ds p s) in
-    same_scopes (s.number ∷ stack) (seen ++ walk.numbers p.chain ∷ []) calls (bare ++ bare_entry p s ∷ []) v (walk.after ds w (opening p s)) u.scopes u.node_scopes
+    same_scopes (s.number ∷ stack) (seen ++ numbers p.chain ∷ []) calls (bare ++ bare_entry p s ∷ []) v (walk.after ds w (opening p s)) u.scopes u.node_scopes
     (opened stack seen calls bare w p s (ap (λ o. o.number) k.1) (subst (λ (o : OpenScope). IsClean o.flags) (sym k.1) (opened_clean p (length seen))) k.0 h)
 scopes_step ds w stack seen calls bare (header_ending p s) k g h = settled_scopes stack seen calls bare w (header_outcome (source_of w.tables) s.number) h
 scopes_step ds w stack seen calls bare (closing p s) k g h =

@@ -20,7 +20,7 @@ use Rattle.semantic_model.proofs.steps.Turn.{Turn, turn_at}
 use Rattle.semantic_model.proofs.steps.Opened.{opened_by_node, openings, none_after, next_opened}
 use Rattle.semantic_model.proofs.lists.Members.{contains_first}
 use Rattle.semantic_model.proofs.steps.TurnCases.{last_case}
-use Rattle.walk_model.specs.Walks.{numbers}
+use Rattle.semantic_model.specs.TablesOf.{numbers}
 
 -- the scopes that are open after a step, innermost first
 abbrev pub open_past : List ℕ → Step → List ℕ

@@ -16,7 +16,7 @@ use Rattle.semantic_syntax.specs.Lookup.{Lookup, tied, barred, unanswered, looku
 use Rattle.semantic_model.specs.Tie.{Tie, until_end_of, symbol_by, final_flags, header_from, moment, is_at, is_last}
 use Rattle.semantic_syntax.specs.Outcome.{Pending, is_free, waits, up_to, answer as source_answer, outcome_or, waits_outside, header_outcome, last_outcome}
 use Rattle.walk_model.specs.WalkState.{WalkState}
-use Rattle.walk_model.specs.Walks.{numbers}
+use Rattle.semantic_model.specs.TablesOf.{numbers}
 use Rattle.walk_model.proofs.places.Nested.{Descends}
 use Rattle.walk_model.proofs.headers.Headed.{AllMatch, AreFlagged, AllLess}
 use Rattle.walk_model.proofs.refers.Lookups.{answered_in, answered_among, lookup_alike, header_skip, header_none, moment_answered, moment_unanswered}

@@ -17,7 +17,7 @@ use Rattle.semantic_model.specs.Hoist.{run}
 use Rattle.semantic_model.specs.Tie.{Tie, until_end_of, seen_as}
 use Rattle.semantic_model.proofs.lists.Members.{contains_first}
 use Rattle.walk_model.specs.WalkState.{WalkState}
-use Rattle.walk_model.specs.Walks.{numbers}
+use Rattle.semantic_model.specs.TablesOf.{numbers}
 use Rattle.walk_model.proofs.places.Nested.{AreLinked, Descends}
 use Rattle.walk_model.proofs.opens.EvalReach.{head_of}
 use Rattle.walk_model.proofs.headers.Frozen.{Frozen}

@@ -16,7 +16,7 @@ use Rattle.semantic_model.specs.Fold.{State, start}
 use Rattle.semantic_model.specs.Hoist.{run}
 use Rattle.semantic_model.specs.Tie.{Tie, ties, moment, is_last, settled_at, in_order}
 use Rattle.semantic_syntax.specs.Outcome.{Pending, last_outcome, staying}
-use Rattle.semantic_model.specs.TablesOf.{entry_of, tables_of}
+use Rattle.semantic_model.specs.TablesOf.{entry_of, tables_of, numbers}
 use Rattle.semantic_model.specs.NodeTable.{numbered_from}
 use Rattle.semantic_model.proofs.lists.Growth.{start_is_sound}
 use Rattle.semantic_model.proofs.steps.Compose.{run-append}
@@ -42,7 +42,7 @@ use Rattle.walk_model.proofs.refers.ReferredSteps.{inv_step}
 
 pub same_count : (fs : List ℕ) (seen : List (List ℕ)) (step : Step) → length fs ≡ length seen → length (flags_past fs step) ≡ length (seen_past seen step)
 same_count fs seen (entering p) e = e
-same_count fs seen (opening p s) e = omega (arith, e, length-append fs (s.flags ∷ []), length-append seen (walk.numbers p.chain ∷ []))
+same_count fs seen (opening p s) e = omega (arith, e, length-append fs (s.flags ∷ []), length-append seen (numbers p.chain ∷ []))
 same_count fs seen (header_ending p s) e = e
 same_count fs seen (closing p s) e = e
 same_count fs seen (leaving p) e = e

@@ -17,7 +17,7 @@ use Rattle.semantic_model.proofs.lists.Bounds.{IsSound, get_below}
 use Rattle.semantic_model.proofs.once.UseLists.{IsBelow}
 use Rattle.semantic_model.proofs.lists.Members.{contains_first}
 use Rattle.walk_model.specs.WalkState.{WalkState}
-use Rattle.walk_model.specs.Walks.{numbers}
+use Rattle.semantic_model.specs.TablesOf.{numbers}
 use Rattle.semantic_model.proofs.fits.Outwards.{flags_at}
 use Rattle.walk_model.proofs.shows.Represents.{Shows}
 use Rattle.walk_model.proofs.places.Nested.{AreLinked, Descends, descends_more}

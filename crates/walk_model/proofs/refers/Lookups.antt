@@ -6,7 +6,7 @@ use Rattle.semantic_model.specs.Place.{OpenScope}
 use Rattle.semantic_syntax.specs.Members.{contains}
 use Rattle.semantic_syntax.specs.Lookup.{Seen, Asked, Lookup, tied, barred, unanswered, fits, ends_after, tied_by, or_lookup, lookup}
 use Rattle.semantic_model.specs.Tie.{first_header, header_from, moment_by, is_at}
-use Rattle.walk_model.specs.Walks.{numbers}
+use Rattle.semantic_model.specs.TablesOf.{numbers}
 
 -- the scope that ends the lookup
 abbrev pub answered_in : Lookup → Option ℕ

@@ -30,7 +30,7 @@ use Rattle.walk_model.proofs.places.Routes.{HasVar}
 use Rattle.walk_model.proofs.places.Grounds.{IsGrounded}
 use Rattle.walk_model.proofs.opens.LeftByDeclaring.{AllDeclare}
 use Rattle.walk_model.proofs.opens.OpenedScopes.{ShowsScopes, entries-push, numbered-push}
-use Rattle.walk_model.proofs.headers.Headed.{AllMatch, AreFlagged, AllLess, IsHeadedPlace}
+use Rattle.walk_model.proofs.headers.Headed.{AllMatch, AreFlagged, AllLess, IsHeadedPlace, reference_matches}
 use Rattle.walk_model.proofs.refers.Settling.{Tracks, Lists}
 use Rattle.walk_model.proofs.headers.Frozen.{AllSidedAt, IsWithin}
 use Rattle.walk_model.proofs.refers.HeaderEnds.{Waits}
@@ -199,7 +199,7 @@ refs_noted final es awaiting stack seen fs rs w p g k h r = by (is kind.Identifi
     by : (b : Bool) → is kind.IdentifierReference p.node ≡ b → IsGrounded p → Refs final es awaiting seen fs (cond b (rs ++ reference_at p ∷ []) rs) (cond b (refer w p) w)
     by true e (inl v) = record {
       tracks = subst (λ ts. Tracks (IsDone awaiting (length seen)) (Waits awaiting seen fs final es) ts (refer w p).tables.references (refer w p).waiting) (sym (ties-append final es 0 rs (reference_at p ∷ [])))
-          (tracks-push (IsDone awaiting (length seen)) (Waits awaiting seen fs final es) (ties final es 0 rs) w.tables.references w.waiting (tie_of final es (0 + length rs) (reference_at p)) (record { name = p.node.text; reference = n; lookup_scope = scope_of_place p }) r.tracks (waits_new p.chain refl v (h.matches e)));
+          (tracks-push (IsDone awaiting (length seen)) (Waits awaiting seen fs final es) (ties final es 0 rs) w.tables.references w.waiting (tie_of final es (0 + length rs) (reference_at p)) (record { name = p.node.text; reference = n; lookup_scope = scope_of_place p }) r.tracks (waits_new p.chain refl v (reference_matches awaiting fs p h e)));
       nodes = ap (λ l. with_entry l (record { node = p.node.node_id; number = n })) r.nodes
           ∙ sym (entries-push (numbered_from 0 (map (λ q. q.node) rs)) (record { node = p.node.node_id; number = n }))
           ∙ ap (λ m. entries_of (numbered_from 0 (map (λ q. q.node) rs) ++ record { node = p.node.node_id; number = m } ∷ [])) number

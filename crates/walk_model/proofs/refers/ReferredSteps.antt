@@ -20,7 +20,7 @@ use Rattle.semantic_model.specs.Fold.{State, start}
 use Rattle.semantic_model.specs.Hoist.{run}
 use Rattle.semantic_model.specs.Tie.{Tie, ties, until_end_of, moment, is_at, settled_at}
 use Rattle.semantic_syntax.specs.Outcome.{Pending, header_outcome, staying}
-use Rattle.semantic_model.specs.TablesOf.{is_direct_eval}
+use Rattle.semantic_model.specs.TablesOf.{is_direct_eval, numbers}
 use Rattle.semantic_model.proofs.lists.Growth.{run_grows}
 use Rattle.semantic_model.proofs.steps.Compose.{run-append, flat-append}
 use Rattle.walk_model.specs.WalkState.{WalkState}
@@ -104,13 +104,13 @@ module _ (ds : List Declaration) (all : List Tie) (final : State) (es : List Eve
       none_of nothing = refl
       none_of (tree r k span text marks below id after) = none_of after
 
-  new_inner : (seen : List (List ℕ)) (p : Place) (n : ℕ) → length seen ≡ n → IsGrounded p → has_header p ≡ true → IsInner (seen ++ walk.numbers p.chain ∷ []) n
+  new_inner : (seen : List (List ℕ)) (p : Place) (n : ℕ) → length seen ≡ n → IsGrounded p → has_header p ≡ true → IsInner (seen ++ numbers p.chain ∷ []) n
   new_inner seen p n e (inr q) h = let w : true ≡ false = sym h ∙ root_no_header p q in absurd cc
   new_inner seen p n e (inl v) h = by p.chain refl v
     where
-      by : (chain : List OpenScope) → p.chain ≡ chain → HasVar chain → IsInner (seen ++ walk.numbers p.chain ∷ []) n
+      by : (chain : List OpenScope) → p.chain ≡ chain → HasVar chain → IsInner (seen ++ numbers p.chain ∷ []) n
       by [] q v2 = absurd (v2 refl)
-      by (s ∷ ss) q v2 = record { first = s.number; others = walk.numbers ss; is = get_end seen (walk.numbers p.chain) n e ∙ ap (λ c. Some (walk.numbers c)) q }
+      by (s ∷ ss) q v2 = record { first = s.number; others = numbers ss; is = get_end seen (numbers p.chain) n e ∙ ap (λ c. Some (numbers c)) q }
 
   inv_opening : (stack : List ℕ) (seen calls : List (List ℕ)) (bare : List Scope) (awaiting fs : List ℕ) (rs : List Occurrence) (done : List Event) (w : WalkState) (st : State) (p : Place) (s : OpenScope) → length fs ≡ length seen → IsNestedStep stack seen (opening p s) → IsGrounded p → IsHeadedStep awaiting fs (opening p s)
       → Inv all final es stack seen calls bare awaiting fs rs done w st → After stack seen calls bare awaiting fs rs done w st (opening p s)
@@ -118,9 +118,9 @@ module _ (ds : List Declaration) (all : List Tie) (final : State) (es : List Eve
       let evs : List Event = events_of ds (opening p s) in
       let v : WalkState = walk.prepare w (opening p s) in
       let u : WalkState = walk.after ds w (opening p s) in
-      let later : List (List ℕ) = seen ++ walk.numbers p.chain ∷ [] in
+      let later : List (List ℕ) = seen ++ numbers p.chain ∷ [] in
       let number : s.number ≡ length seen = ap (λ o. o.number) k.1 in
-      let longer : length later ≡ suc (length seen) = omega (arith, length-append seen (walk.numbers p.chain ∷ [])) in
+      let longer : length later ≡ suc (length seen) = omega (arith, length-append seen (numbers p.chain ∷ [])) in
       let U : Untouched v u = acts_untouched v evs (opening_declares ds p s) in
       let R : Represents (length later) u (run st evs) = step_as ds w st stack seen (opening p s) k g i.represents in
       let moved : Tracks (IsDone (awaiting_past awaiting (opening p s)) (length later)) (Waits (awaiting_past awaiting (opening p s)) later (flags_past fs (opening p s)) final es) (ties final es 0 rs) w.tables.references w.waiting =
@@ -140,7 +140,7 @@ module _ (ds : List Declaration) (all : List Tie) (final : State) (es : List Eve
         order = (subst (AllLess stack) (sym number) (stack_less seen stack i.scopes.frames), i.order);
         old = old_after (has_header p) (subst (AllLess awaiting) (sym number) i.less) i.old;
         less = less_after (has_header p) (length later) (omega arith) (less_more awaiting (length seen) (length later) (omega arith) i.less);
-        inner = inner_after (has_header p) refl (sym number) (inner_more seen later awaiting (record { added = walk.numbers p.chain ∷ []; is = refl }) i.inner);
+        inner = inner_after (has_header p) refl (sym number) (inner_more seen later awaiting (record { added = numbers p.chain ∷ []; is = refl }) i.inner);
         ends = ends-append (awaiting_past awaiting (opening p s)) (length later) done evs (ends_after (has_header p) number longer i.ends ends2) (none_end (awaiting_past awaiting (opening p s)) (length later) evs (opening_declares ds p s));
         tracks = r.tracks;
         lists = lists_after done evs w v u st (length (run st evs).symbols) (opening_declares ds p s) refl refl U i.represents.shows.uses R.shows.uses i.lists;
@@ -155,12 +155,12 @@ module _ (ds : List Declaration) (all : List Tie) (final : State) (es : List Eve
       less_after true n l o = (l, o)
       less_after false n l o = o
 
-      inner_after : (b : Bool) → has_header p ≡ b → length seen ≡ s.number → AllInner (seen ++ walk.numbers p.chain ∷ []) awaiting → AllInner (seen ++ walk.numbers p.chain ∷ []) (cond b (s.number ∷ awaiting) awaiting)
+      inner_after : (b : Bool) → has_header p ≡ b → length seen ≡ s.number → AllInner (seen ++ numbers p.chain ∷ []) awaiting → AllInner (seen ++ numbers p.chain ∷ []) (cond b (s.number ∷ awaiting) awaiting)
       inner_after true q n o = (new_inner seen p s.number n g q, o)
       inner_after false q n o = o
 
-      ends_after : (b : Bool) → s.number ≡ length seen → length (seen ++ walk.numbers p.chain ∷ []) ≡ suc (length seen) → AllEnds awaiting (length seen) done → AllEnds awaiting (length (seen ++ walk.numbers p.chain ∷ [])) done → AllEnds (cond b (s.number ∷ awaiting) awaiting) (length (seen ++ walk.numbers p.chain ∷ [])) done
-      ends_after true n l o o2 = ends_more (s.number ∷ awaiting) (length seen) (length (seen ++ walk.numbers p.chain ∷ [])) done (omega arith) (ends_opening awaiting (length seen) s.number done (omega arith) o)
+      ends_after : (b : Bool) → s.number ≡ length seen → length (seen ++ numbers p.chain ∷ []) ≡ suc (length seen) → AllEnds awaiting (length seen) done → AllEnds awaiting (length (seen ++ numbers p.chain ∷ [])) done → AllEnds (cond b (s.number ∷ awaiting) awaiting) (length (seen ++ numbers p.chain ∷ [])) done
+      ends_after true n l o o2 = ends_more (s.number ∷ awaiting) (length seen) (length (seen ++ numbers p.chain ∷ [])) done (omega arith) (ends_opening awaiting (length seen) s.number done (omega arith) o)
       ends_after false n l o o2 = o2
 
   filter-append : (f : Tie → Bool) (xs ys : List Tie) → filter f (xs ++ ys) ≡ filter f xs ++ filter f ys

@@ -23,7 +23,7 @@ use Rattle.semantic_model.specs.Tie.{until_end_of, seen_as, answer}
 use Rattle.semantic_syntax.specs.Outcome.{up_to, answer as source_answer}
 use Rattle.semantic_model.proofs.fits.Outwards.{flags_at}
 use Rattle.walk_model.specs.WalkState.{WalkState}
-use Rattle.walk_model.specs.Walks.{numbers}
+use Rattle.semantic_model.specs.TablesOf.{numbers}
 use Rattle.walk_model.proofs.places.Nested.{AreLinked, Descends}
 use Rattle.walk_model.proofs.shows.Represents.{Shows, bound_as}
 use Rattle.walk_model.proofs.opens.EvalFlags.{flagged, flag_if, flagged_parent}

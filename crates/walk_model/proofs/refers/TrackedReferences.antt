@@ -17,10 +17,9 @@ use Rattle.semantic_model.specs.Fold.{State}
 use Rattle.semantic_model.specs.Tie.{Tie, ties, answers, until_end_of, moment, is_at}
 use Rattle.semantic_syntax.specs.Lookup as look
 use Rattle.semantic_syntax.specs.Outcome.{Pending}
-use Rattle.semantic_model.specs.TablesOf.{entry_of}
-use Rattle.walk_model.specs.Walks.{numbers}
+use Rattle.semantic_model.specs.TablesOf.{entry_of, numbers}
 use Rattle.walk_model.proofs.places.Nested.{Descends, linked_more, descends_more, IsNestedStep, AreNested, open_past, seen_past, seen_longer}
-use Rattle.walk_model.proofs.headers.Headed.{AllMatch, AllLess, ChainLess, match_more, flagged_later, awaiting_past, flags_past, AreHeaded, has_header}
+use Rattle.walk_model.proofs.headers.Headed.{AllMatch, AllLess, ChainLess, match_more, flagged_later, awaiting_past, flags_past, reference_matches, AreHeaded, has_header}
 use Rattle.walk_model.proofs.refers.Lookups.{in_headers, header_among, not_at}
 use Rattle.walk_model.proofs.refers.Settling.{open_entry, Tracks, none, is_done, is_open, AreNumbered}
 use Rattle.walk_model.proofs.refers.HeaderEnds.{Waits, waits_still, descends_right}
@@ -218,7 +217,7 @@ none_later final es c k stack seen aw fs (entering p ∷ ss) n h l o =
   where
     by : (b : Bool) → is kind.IdentifierReference p.node ≡ b → ((j : ℕ) → filter (λ t. is_at c (moment t)) (ties final es j (references ss)) ≡ [])
         → filter (λ t. is_at c (moment t)) (ties final es k (cons_option (cond b (Some (reference_at p)) None) (references ss))) ≡ []
-    by true e rest = rw (not_later final es aw c k (reference_at p) o (h.0.matches e)) (rest (suc k))
+    by true e rest = rw (not_later final es aw c k (reference_at p) o (reference_matches aw fs p h.0 e)) (rest (suc k))
     by false e rest = rest k
 none_later final es c k stack seen aw fs (opening p s ∷ ss) n h l o =
     none_later final es c k (open_past stack (opening p s)) (seen_past seen (opening p s)) (awaiting_past aw (opening p s)) (flags_past fs (opening p s)) ss n.1 h.1 (omega (arith, l, seen_longer seen (opening p s))) (still_ended aw (opening p s) c 0 (opening_later stack seen c (opening p s) l n.0) o)

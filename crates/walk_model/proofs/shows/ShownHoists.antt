@@ -14,7 +14,7 @@ use Rattle.semantic_model.proofs.lists.BindingLaws.{same_key_tells, get-put_othe
 use Rattle.walk_model.specs.WalkState.{WalkState}
 use Rattle.walk_model.specs.Declares as writes
 use Rattle.walk_model.specs.Hoists as reaches
-use Rattle.walk_model.specs.Walks.{numbers}
+use Rattle.semantic_model.specs.TablesOf.{numbers}
 use Rattle.walk_model.proofs.shows.SymbolLists.{update_twice}
 use Rattle.walk_model.proofs.shows.Represents.{Shows, Represents, bound_as, found_as}
 use Rattle.walk_model.proofs.shows.ShownChanges.{represents_note_symbol, represents_redeclare, represents_set_symbol_scope, represents_against, represents_declare_in, chosen_as, represents_remember, represents_rebind}

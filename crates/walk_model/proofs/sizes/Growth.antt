@@ -22,13 +22,13 @@ use Rattle.semantic_model.specs.Fold.{new_symbol, redeclared, united}
 use Rattle.semantic_model.specs.Hoist.{PassedSymbol}
 use Rattle.semantic_syntax.specs.Outcome.{Pending, Outcome, means, is_free, waits, header_outcome}
 use Rattle.semantic_model.specs.Step.{Step, entering, opening, header_ending, closing, leaving}
-use Rattle.semantic_model.specs.TablesOf.{is_direct_eval}
+use Rattle.semantic_model.specs.TablesOf.{is_direct_eval, numbers}
 use Rattle.walk_model.specs.WalkState.{WalkState}
 use Rattle.walk_model.specs.Declares as writes
 use Rattle.walk_model.specs.Hoists as reaches
 use Rattle.walk_model.specs.Opens.{with_eval, open_scope, note_reference, close_scope, add_eval, refer, innermost_number}
 use Rattle.walk_model.specs.Settles.{settle, settle_one, tied_to}
-use Rattle.walk_model.specs.Walks.{numbers, declare_by, act_all, prepare, after}
+use Rattle.walk_model.specs.Walks.{declare_by, act_all, prepare, after}
 use Rattle.walk_model.proofs.turns.RowEvents.{acts-append}
 use Rattle.walk_model.specs.Room.{opened_by, names_declared_by, referred_by}
 

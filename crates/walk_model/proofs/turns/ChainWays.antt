@@ -9,7 +9,7 @@ use Rattle.semantic_syntax.specs.Source.{chain_within}
 use Rattle.semantic_model.specs.Place.{Place, OpenScope, innermost}
 use Rattle.semantic_model.specs.Place as place
 use Rattle.semantic_model.specs.Declaration.{Route, passed_before, first_with, route_from, outward_to, outward_past}
-use Rattle.walk_model.specs.Walks.{numbers}
+use Rattle.semantic_model.specs.TablesOf.{numbers}
 use Rattle.walk_model.proofs.places.Nested.{Descends}
 use Rattle.walk_model.proofs.turns.ChainsShown.{IsOther, ShowsChain, chain_descends}
 

@@ -7,10 +7,11 @@ use Rattle.semantic_model.specs.Place.{OpenScope, innermost, outside}
 use Rattle.semantic_model.specs.Declaration.{plain, hoisted, moved, caught, Declaration, passed_before, first_with, route_from, outward_past, stands_in}
 use Rattle.semantic_model.specs.Event.{Event, declares, placed, placed_by, staying_declaration, is_barred, declares_all}
 use Rattle.semantic_model.specs.Binder.{BinderRow, declaration_at}
+use Rattle.semantic_model.specs.TablesOf.{numbers}
 use Rattle.walk_model.specs.WalkState.{WalkState}
 use Rattle.walk_model.specs.Declares as writes
 use Rattle.walk_model.specs.Hoists as reaches
-use Rattle.walk_model.specs.Walks.{numbers, declare_by, act, act_all}
+use Rattle.walk_model.specs.Walks.{declare_by, act, act_all}
 
 -- events, and then others
 pub acts-append : (w : WalkState) (es fs : List Event) → act_all w (es ++ fs) ≡ act_all (act_all w es) fs

@@ -14,7 +14,7 @@ use Rattle.semantic_syntax.specs.Members.{contains}
 use Rattle.semantic_model.specs.Binder.{declared_by, declared_on_entering, declared_on_opening}
 use Rattle.semantic_model.specs.Step.{Step, entering, opening, header_ending, closing, leaving, steps}
 use Rattle.semantic_model.specs.Event.{counts_past, written_declarations, any_bars}
-use Rattle.walk_model.specs.Walks.{numbers}
+use Rattle.semantic_model.specs.TablesOf.{numbers}
 use Rattle.walk_model.specs.WrittenNames.{any_standing}
 use Rattle.walk_model.proofs.places.Nested.{AreNested, open_past, contains_more}
 use Rattle.walk_model.proofs.places.Routes.{HasVar, grounded, GoesOut, AllGoOut, entering_goes, opening_goes}

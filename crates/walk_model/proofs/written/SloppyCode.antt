@@ -14,7 +14,7 @@ use Rattle.semantic_model.specs.Place.{Place, OpenScope, innermost, is_strict}
 use Rattle.semantic_model.specs.ScopeKind.{opened_scope, strict_if, flags_of_kind}
 use Rattle.semantic_model.specs.Binder.{is_special, is_block_function, is_var, is_clause}
 use Rattle.semantic_model.specs.Step.{Step, entering, opening, header_ending, closing, leaving, steps}
-use Rattle.walk_model.specs.Walks.{numbers}
+use Rattle.semantic_model.specs.TablesOf.{numbers}
 use Rattle.walk_model.specs.WrittenNames.{is_sloppy}
 use Rattle.walk_model.proofs.places.Nested.{AreNested, open_past}
 use Rattle.walk_model.proofs.places.Routes.{HasVar}

@@ -43,7 +43,7 @@ returns g c =
     ++ name_lines c.args.ret.now.semantic.scoping (map text_of c.references.result.now) (map span_of c.references.result.now) c.in_ok-names.names.unused c.in_ok-names.names.undeclared)
     (status_of_both (report.status_for c.args.ret.now.diagnostics) (lint.status_for c.in_ok-names.names.unused c.in_ok-names.names.undeclared)) c.finish_both.result
     (record {
-      report_end = report.end_of (report.status_for c.args.ret.now.diagnostics);
+      report_end = end_of (report.status_for c.args.ret.now.diagnostics);
       report_text = answer_text check_request (found_in c.args.ret.now);
       reported = record {
         tables = c.args.ret.now.semantic.scoping;

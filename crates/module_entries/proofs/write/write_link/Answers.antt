@@ -1,9 +1,6 @@
 use Rattle.std.proofs.Common.{refl}
-use Rattle.report_ends.proofs.Stages.{lacks_memory_at_once, writes_line}
+use Rattle.report_lines.proofs.Made.{writes_made}
 use Rattle.module_entries.proofs.write.write_link.Goals as goal
 
-pub returns-in_err-make_link_line : goal.returns-in_err-make_link_line
-returns-in_err-make_link_line g c = lacks_memory_at_once g.K.Sink.held g.K.Sink.faults c.args.out.now _ c.from_residual.result c.from_residual.ensures.1
-
 pub returns : goal.returns
-returns g c = writes_line g.K.Sink.held g.K.Sink.faults _ _ _ _ _ c.offer.ensures.written c.offer.ensures.pieces c.in_ok-make_link_line.ensures (_, _, refl)
+returns g c = writes_made g.K.Sink.held g.K.Sink.faults _ _ _ _ _ _ _ c.offer_made.ensures c.make_link_line-made.ensures refl (_, _, refl)

@@ -3,7 +3,8 @@ use Rattle.semantic_tree.specs.Children.{node_count}
 use Rattle.semantic_tree.specs.Tree.{Tree}
 use Rattle.promise.specs.Analysis.{IsAnalysis}
 use Rattle.promise.specs.Kept.{kept_nodes, classes_noted}
-use Rattle.report_answers.specs.Codes.{status_for, end_of}
+use Rattle.program_ends.specs.FindingEnds.{end_of}
+use Rattle.report_answers.specs.Codes.{status_for}
 use Rattle.report_answers.specs.Found.{found_in}
 use Rattle.report_answers.specs.Report.{options_of, answer_text}
 use Rattle.program_ends.proofs.Answering.{gives_none, gives}

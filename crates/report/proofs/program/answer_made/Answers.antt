@@ -1,5 +1,5 @@
 use Rattle.program_ends.proofs.Answering.{gives_none}
-use Rattle.report_answers.specs.Codes.{end_of}
+use Rattle.program_ends.specs.FindingEnds.{end_of}
 use Rattle.report.proofs.Meanings.{gives_about}
 use Rattle.report.specs.Meaning.{Answers}
 use Rattle.report.proofs.program.answer_made.Goals as goal

@@ -1,7 +1,7 @@
 use Rattle.std.proofs.Common.{refl, inl, ◌≡◌, None}
 use Rattle.program_ends.proofs.Answering.{ends_unfound, unfound_no_refusal, gives_ends, gives_no_refusal}
 use Rattle.program_ends.proofs.Faults.{unfound_failing, given_failing}
-use Rattle.report_answers.specs.Codes.{end_of}
+use Rattle.program_ends.specs.FindingEnds.{end_of}
 use Rattle.report.proofs.Meanings.{read_about}
 use Rattle.report.specs.Meaning.{IsAbout, Answers}
 use Rattle.report.proofs.program.answer_read.Goals as goal

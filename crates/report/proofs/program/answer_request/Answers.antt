@@ -2,7 +2,7 @@ use Rattle.std.proofs.Common.{refl, inr, ◌≡◌, None}
 use Rattle.generated_tree.specs.Generated.{generated}
 use Rattle.program_ends.proofs.Answering.{gives_ends, gives_no_refusal}
 use Rattle.program_ends.proofs.Faults.{given_failing}
-use Rattle.report_answers.specs.Codes.{end_of}
+use Rattle.program_ends.specs.FindingEnds.{end_of}
 use Rattle.report.proofs.Meanings.{made_about}
 use Rattle.report.specs.Meaning.{IsAbout, Answers}
 use Rattle.report.proofs.program.answer_request.Goals as goal

@@ -1,0 +1,2 @@
+-- Variables that clash.
+pub mod UntoldClash

@@ -1,0 +1,515 @@
+-- Place by place, what the scopes answer is what the name means in the containers.
+use Rattle.std.proofs.Common.{◌≡◌, ℕ, List, [], ◌∷◌, ◌++◌, Option, Some, None, Bool, true, false, ◌&&◌, ◌||◌, not, cond, refl, sym, ap, subst, ◌∙◌, inl, inr, ◌⊎◌, bytes_eq, codes, map, filter}
+use Rattle.std.specs.List.{list_any}
+use Rattle.std.proofs.lemmas.Bool.{cases_Bool, and_from, not-true}
+use Rattle.semantic_syntax.proofs.Truth.{and_first, and_second}
+use Rattle.semantic_kinds.specs.Classes.{holds_kind}
+use Rattle.semantic_kinds.specs.Kinds.{same_kind}
+use Rattle.semantic_kinds.specs.declared.kind.AstType.TheVariants as kind
+use Rattle.semantic_kinds.specs.declared.role.Role.{Role}
+use Rattle.semantic_syntax.specs.Lookup.{Seen, Asked, is_arguments, lookup}
+use Rattle.semantic_syntax.specs.Sets.{meets}
+use Rattle.semantic_syntax.specs.SourceTypes.{is_typescript}
+use Rattle.semantic_syntax.specs.Tables.{Name}
+use Rattle.semantic_syntax.specs.Usable.{is_usable}
+use Rattle.semantic_syntax.specs.declared.symbol_flags.TheConstants.SymbolFlags as symbol
+use Rattle.semantic_tree.specs.Faults.{first_fault}
+use Rattle.semantic_tree.specs.Forest.{Forest, nothing, tree}
+use Rattle.semantic_tree.specs.Tree.{Tree, IsNumbered}
+use Rattle.semantic_tree.specs.declared.node.Node.{Node}
+use Rattle.semantic_model.specs.Analysis.{analysis_of, symbol_at}
+use Rattle.semantic_model.specs.Cursor.{on_entering}
+use Rattle.semantic_model.specs.EachStep.{EachStep}
+use Rattle.semantic_model.specs.Entries.{Among}
+use Rattle.semantic_model.specs.Fold.{Made}
+use Rattle.semantic_model.specs.Inside.{is_inside, is_in_header, is_parameter_decorator}
+use Rattle.semantic_model.specs.Place.{Place, OpenScope}
+use Rattle.semantic_model.specs.Step.{Step, entering, opening, header_ending, closing, leaving, steps, steps_below, root_place, child_place}
+use Rattle.semantic_model.specs.Tie.{symbol_by}
+use Rattle.semantic_model.proofs.form.ParameterChains.{is_open_inside}
+use Rattle.semantic_model.proofs.once.ListedUnder.{name_tells}
+use Rattle.semantic_model.proofs.steps.EachStep.{EachOfTurn, each_left, each_of_node, each_of_turn, turn_of_each}
+use Rattle.semantic_model.proofs.steps.Turn.{Turn, turn_at}
+use Rattle.semantic_model.proofs.steps.TurnCases.{opening_case, ending_case, last_case}
+use Rattle.walk_model.proofs.places.Shapes.{holds_below}
+use Rattle.semantic_model.specs.TablesOf.{made_of}
+use Rattle.binding_laws.specs.SeenDeclarations.{bound_by_all}
+use Rattle.binding_laws.proofs.SymbolsAtNodes.{symbols_are_at_nodes}
+use Rattle.typescript_ties.specs.Containers.{Container, same_container_kind, same_members, same_container, is_container, no_container, outside_function, containers_by}
+use Rattle.typescript_ties.specs.MeaningSets.{MeaningSet, sort_meanings}
+use Rattle.typescript_ties.specs.NamedDeclarations.{NamedDeclaration, named_in}
+use Rattle.typescript_ties.specs.Resolved.{Resolved, nowhere, declared_in, has_declared, declarations_in, has_meaning, resolve}
+use Rattle.typescript_ties.specs.SeenTogether.{is_in_scope, is_seen_from, bound_together, asked_together}
+use Rattle.typescript_ties.specs.SimpleNames.{is_common_child, is_common_forest, is_common, is_apart, is_simple_sort, IsSimplyDeclared, HasOwnMembers, StandsWithTypes, is_way_of}
+use Rattle.typescript_ties.specs.declared.container_kind.ContainerKind.TheVariants as container
+use Rattle.typescript_ties.specs.declared.declaration_sort.DeclarationSort.TheVariants as sort
+use Rattle.typescript_ties.proofs.ChildChains.{ChainOf, outer_chain, inner_chain, OwnOf, own_of, chain_of}
+use Rattle.typescript_ties.proofs.ChildPlaces.{tells_inside, told_by_kind, tree_tells, tells_header, tree_headed}
+use Rattle.typescript_ties.proofs.FitsTogether.{any_meets, AreBoundAs, bound_as_one, is_asked, WayAsks, way_asks}
+use Rattle.typescript_ties.proofs.HeadPlaces.{IsCommonPlace, CommonStep, common_places, round_place}
+use Rattle.typescript_ties.proofs.OutsideGroups.{IsAside, aside_of}
+use Rattle.typescript_ties.proofs.Pairs.{container_kind_is}
+use Rattle.typescript_ties.proofs.ScopeMembers.{SeenAs, seen_as, in_header_types, SeenToo, seen_too}
+use Rattle.typescript_ties.proofs.ScopeOpeners.{openers, IsOpened, AllOpened, IsPlaceOpened, places_opened}
+use Rattle.typescript_ties.proofs.SimpleDeclarations.{IsBoth, of_language, made_so, one_symbol}
+use Rattle.typescript_ties.proofs.UndeclaredFree.{OfEntered, IsEnteredIn, all_entered}
+
+never : true ≡ false → ⊥
+never h = absurd cc
+
+-- ---- lists
+
+pub among_filter : {A : Type 0} → (test : A → Bool) (xs : List A) (x : A) → Among x (filter test xs) → Among x xs × (test x ≡ true)
+among_filter test [] x a = absurd a
+among_filter test (y ∷ xs) x a = go (test y) refl (among_filter test xs x) a
+  where
+    go : (b : Bool) → test y ≡ b → (Among x (filter test xs) → Among x xs × (test x ≡ true)) → Among x (cond b (y ∷ filter test xs) (filter test xs)) → Among x (y ∷ xs) × (test x ≡ true)
+    go true e f (inl i) = (inl i, subst (λ z. test z ≡ true) i e)
+    go true e f (inr b) = let (c, d) = f b in (inr c, d)
+    go false e f b = let (c, d) = f b in (inr c, d)
+
+pub filter_among : {A : Type 0} → (test : A → Bool) (xs : List A) (x : A) → Among x xs → test x ≡ true → Among x (filter test xs)
+filter_among test [] x a e = absurd a
+filter_among test (y ∷ xs) x (inl i) e = rw (subst (λ z. test z ≡ true) (sym i) e) (inl i)
+filter_among test (y ∷ xs) x (inr a) e = go (test y) (filter_among test xs x a e)
+  where
+    go : (b : Bool) → Among x (filter test xs) → Among x (cond b (y ∷ filter test xs) (filter test xs))
+    go true c = inr c
+    go false c = c
+
+pub any_among : {A : Type 0} → (test : A → Bool) (xs : List A) → list_any test xs ≡ true → (x : A) × Among x xs × (test x ≡ true)
+any_among test [] e = absurd (never (sym e))
+any_among {A} test (y ∷ xs) e = go (test y) refl (any_among test xs) e
+  where
+    go : (b : Bool) → test y ≡ b → (list_any test xs ≡ true → (x : A) × Among x xs × (test x ≡ true)) → (b || list_any test xs) ≡ true → (x : A) × Among x (y ∷ xs) × (test x ≡ true)
+    go true i f j = (y, inl refl, i)
+    go false i f j = let (x, a, k) = f j in (x, inr a, k)
+
+pub any_there : {A : Type 0} → (test : A → Bool) (xs : List A) (x : A) → Among x xs → test x ≡ true → list_any test xs ≡ true
+any_there test [] x a e = absurd a
+any_there test (y ∷ xs) x (inl i) e = rw (subst (λ z. test z ≡ true) (sym i) e) refl
+any_there test (y ∷ xs) x (inr a) e = go (test y) (any_there test xs x a e)
+  where
+    go : (b : Bool) → list_any test xs ≡ true → (b || list_any test xs) ≡ true
+    go true j = refl
+    go false j = j
+
+-- ---- what a name means in a group of containers
+
+module _ (ns : List NamedDeclaration) (asked : MeaningSet) (x : Name) where
+  abbrev has_it : Container → Bool
+  has_it d = list_any (has_meaning asked) (declarations_in ns d x)
+
+  -- none of the group has it, or one does
+  abbrev InGroup : List Container → List Container → Type 0
+  InGroup g cs = ((resolve ns (g ++ cs) asked x ≡ resolve ns cs asked x) × ((d : Container) → Among d g → has_it d ≡ false))
+      ⊎ ((d : Container) × Among d g × (has_it d ≡ true) × (resolve ns (g ++ cs) asked x ≡ declared_in d (map (λ n. n.identifier) (declarations_in ns d x))))
+
+  in_group : (g cs : List Container) → InGroup g cs
+  in_group [] cs = inl (refl, λ d a. absurd a)
+  in_group (c ∷ g) cs = go (has_it c) refl (in_group g cs)
+    where
+      go : (b : Bool) → has_it c ≡ b → InGroup g cs → InGroup (c ∷ g) cs
+      go true e later = inr (c, inl refl, e, ap (λ t. cond t (declared_in c (map (λ n. n.identifier) (declarations_in ns c x))) (resolve ns (g ++ cs) asked x)) e)
+      go false e (inl later) = inl (ap (λ t. cond t (declared_in c (map (λ n. n.identifier) (declarations_in ns c x))) (resolve ns (g ++ cs) asked x)) e ∙ later.0, λ d a. elim a [ inl i ↦ subst (λ z. has_it z ≡ false) i e | inr b ↦ later.1 d b ])
+      go false e (inr later) =
+          let (d, a, i, j) = later in
+          inr (d, inr a, i, ap (λ t. cond t (declared_in c (map (λ n. n.identifier) (declarations_in ns c x))) (resolve ns (g ++ cs) asked x)) e ∙ j)
+
+-- ---- one scope of a look-up
+
+module _ (x : Name) (w : ℕ) (no_arguments : bytes_eq x (codes "arguments") ≡ false) where
+  not_arguments : is_arguments x w ≡ false
+  not_arguments = rw no_arguments refl
+
+  next_if_none : (number flags : ℕ) (rest : List Asked) → symbol_by (lookup x w (record { scope = number; flags = flags; bound = None } ∷ rest)) ≡ symbol_by (lookup x w rest)
+  next_if_none number flags rest = rw not_arguments refl
+
+  next_if_unusable : (number flags y f : ℕ) (rest : List Asked) → is_usable w f ≡ false → symbol_by (lookup x w (record { scope = number; flags = flags; bound = Some (record { symbol = y; flags = f }) } ∷ rest)) ≡ symbol_by (lookup x w rest)
+  next_if_unusable number flags y f rest e = rw (not_arguments, e) refl
+
+  found_if_usable : (number flags y f : ℕ) (rest : List Asked) → is_usable w f ≡ true → symbol_by (lookup x w (record { scope = number; flags = flags; bound = Some (record { symbol = y; flags = f }) } ∷ rest)) ≡ Some y
+  found_if_usable number flags y f rest e = rw (not_arguments, e) refl
+
+-- ---- places
+
+module _ (p : Tree) (h : first_fault p ≡ None) (common : is_common p ≡ true) (typed : is_typescript p.source_type ≡ true) (numbered : IsNumbered p.root) (x : Name) (no_arguments : bytes_eq x (codes "arguments") ≡ false)
+    (simply : IsSimplyDeclared p x) (alone : HasOwnMembers p x) (types : StandsWithTypes p x) where
+  abbrev ns : List NamedDeclaration
+  ns = named_in p
+
+  abbrev Both : Made → NamedDeclaration → Type 0
+  Both m n = IsBoth p h common typed numbered x simply m.declaration n
+
+  -- the identifiers have the symbol
+  abbrev pub AllHave : List ℕ → ℕ → Type 0
+  AllHave [] y = Unit {0}
+  AllHave (i ∷ is) y = (symbol_at (analysis_of p) i ≡ Some y) × AllHave is y
+
+  abbrev pub Agrees : Option ℕ → Resolved → Type 0
+  Agrees o nowhere = o ≡ None
+  Agrees o (declared_in c ids) = (y : ℕ) × (o ≡ Some y) × AllHave ids y
+
+  -- a scope binds the name to a namespace that is no type, which the look-up passes
+  pub record IsMissed (w : ℕ) : Type 0 where
+    pub scope : ℕ
+    pub number : ℕ
+    pub flags : ℕ
+    pub made : Made
+    pub among : Among made (made_of p)
+    pub in_it : is_in_scope scope x made ≡ true
+    pub is : made.symbol ≡ number
+    pub bound : bound_by_all (filter (is_in_scope scope x) (made_of p)) ≡ Some (record { symbol = number; flags = flags })
+    pub any : (m : ℕ) → meets flags m ≡ any_meets m (filter (is_in_scope scope x) (made_of p))
+    pub namespace : meets flags symbol.AsNamespace.bits ≡ true
+    pub no_type : meets flags symbol.ByType.bits ≡ false
+    pub unusable : is_usable w flags ≡ false
+
+  -- the name is declared, and the look-up finds nothing
+  pub record IsFreeThough (o : Option ℕ) : Type 0 where
+    pub free : o ≡ None
+    pub made : Made
+    pub among : Among made (made_of p)
+    pub named : made.declaration.naming.name ≡ x
+
+  abbrev pub Matches : ℕ → Option ℕ → Resolved → Type 0
+  Matches w o r = Agrees o r ⊎ (IsMissed w ⊎ IsFreeThough o)
+
+  abbrev pub looked_up : ℕ → List OpenScope → Option ℕ
+  looked_up w chain = symbol_by (lookup x w (map (asked_together p x) chain))
+
+  abbrev pub AgreesRound : Place → Type 0
+  AgreesRound q = (asked : MeaningSet) (w : ℕ) → is_way_of asked w ≡ true → Matches w (looked_up w q.chain) (resolve ns (round_place p q) asked x)
+
+  -- ---- what isn't in the scope at all
+
+  named_x : (d : Container) (n : NamedDeclaration) → has_declared d x n ≡ true → n.name ≡ x
+  named_x d n e = elim (name_tells n.name x) [
+    | inl j ↦ j.1
+    | inr j ↦ absurd (never (sym (and_first (bytes_eq n.name x) (same_container n.container d || list_any (λ z. same_container z d) n.also) e) ∙ j.0))
+  ]
+
+  nothing_aside : (d : Container) → IsAside d → (asked : MeaningSet) → has_it ns asked x d ≡ false
+  nothing_aside d aside asked = elim (cases_Bool (has_it ns asked x d)) [
+    | inr e ↦ e
+    | inl e ↦ (let (n, a, i) = any_among (has_meaning asked) (declarations_in ns d x) e in
+        let (b, j) = among_filter (has_declared d x) ns n a in
+        absurd (none n b j))
+  ]
+    where
+      none : (n : NamedDeclaration) → Among n ns → has_declared d x n ≡ true → ⊥
+      none n b j =
+          let named : n.name ≡ x = named_x d n j in
+          let (w, both) = of_language p h common typed numbered x simply n b named in
+          let here : same_container n.container d ≡ true = left_or (same_container n.container d) (list_any (λ z. same_container z d) n.also) (and_second (bytes_eq n.name x) (same_container n.container d || list_any (λ z. same_container z d) n.also) j) (both.pair.also d aside.no_global) in
+          let same : n.container.kind ≡ d.kind = container_kind_is n.container.kind d.kind (and_first (same_container_kind n.container.kind d.kind) (same_members n.container d n.container.members d.members) here) in
+          never (sym aside.apart ∙ ap is_apart (sym same) ∙ not-true (is_apart n.container.kind) (and_second (is_simple_sort n.sort) (not (is_apart n.container.kind)) (simply n b named)))
+        where
+          left_or : (u v : Bool) → (u || v) ≡ true → v ≡ false → u ≡ true
+          left_or true v i k = refl
+          left_or false v i k = absurd (never (sym i ∙ k))
+
+  aside_group : (g cs : List Container) → ((d : Container) → Among d g → IsAside d) → (asked : MeaningSet) → resolve ns (g ++ cs) asked x ≡ resolve ns cs asked x
+  aside_group g cs f asked = elim (in_group ns asked x g cs) [
+    | inl e ↦ e.0
+    | inr e ↦ (let (d, a, i, j) = e in absurd (never (sym i ∙ nothing_aside d (f d a) asked)))
+  ]
+
+  -- ---- a child within the scope of a place
+
+  module _ (q : Place) (entered : Among (entering q) (steps p)) (k : IsCommonPlace p q) (agree : AgreesRound q) (r : Role) (node : Node) (text : List ℕ)
+      (tells : tells_inside q.node.kind r node.kind text ≡ true) (headed : tells_header q.node.kind r node.kind text ≡ true) (inside : is_inside q.node.kind r ≡ true)
+      (s : OpenScope) (opener : s.opener ≡ q.node.node_id) (header : s.in_header ≡ is_in_header q.node.kind r) (opened : IsOpened (openers (steps p)) s)
+      (c : Place) (c_entered : Among (entering c) (steps p)) (c_round : round_place p c ≡ containers_by q.node.kind p.source_type q.node q.path (round_place p q) node ++ round_place p q)
+      (asked : MeaningSet) (w : ℕ) (is_way : is_way_of asked w ≡ true) where
+    abbrev group : List Container
+    group = containers_by q.node.kind p.source_type q.node q.path (round_place p q) node
+
+    abbrev outer : List Container
+    outer = round_place p q
+
+    abbrev seen : List Made
+    seen = filter (is_seen_from s x) (made_of p)
+
+    abbrev Seen' : Made → Type 0
+    Seen' m = SeenAs p h common typed numbered x simply alone q entered k r node text tells headed inside s opener header opened c c_entered c_round m
+
+    of_seen : (m : Made) → Among m seen → Seen' m
+    of_seen m a = let (b, e) = among_filter (is_seen_from s x) (made_of p) m a in seen_as p h common typed numbered x simply alone q entered k r node text tells headed inside s opener header opened c c_entered c_round m b e
+
+    abbrev Too : NamedDeclaration → Type 0
+    Too n = SeenToo p h common typed numbered x simply alone q entered k r node text tells headed inside s opener header opened c c_entered c_round n
+
+    of_declared : (d : Container) → Among d group → (n : NamedDeclaration) → Among n (declarations_in ns d x) → Too n
+    of_declared d b n a = let (i, e) = among_filter (has_declared d x) ns n a in seen_too p h common typed numbered x simply alone q entered k r node text tells headed inside s opener header opened c c_entered c_round n i d b e
+
+    too_among : (n : NamedDeclaration) (t : Too n) → Among t.made seen
+    too_among n t = filter_among (is_seen_from s x) (made_of p) t.made t.among t.seen
+
+    -- the meanings of a declaration, by its flags
+    meaning_is : (m : Made) (n : NamedDeclaration) → Both m n → is_asked asked m.declaration.naming.flags ≡ has_meaning asked n
+    meaning_is m n both = λ i. (asked.value && both.pair.flags.value i) || ((asked.is_type && both.pair.flags.is_type i) || (asked.namespace && both.pair.flags.namespace i))
+
+    rest : List OpenScope → Option ℕ
+    rest chain = looked_up w chain
+
+    goal : (o : Option ℕ) → o ≡ looked_up w q.chain → resolve ns (group ++ outer) asked x ≡ resolve ns outer asked x → Matches w o (resolve ns (group ++ outer) asked x)
+    goal o e f = subst (λ z. Matches w z (resolve ns (group ++ outer) asked x)) (sym e) (subst (Matches w (looked_up w q.chain)) (sym f) (agree asked w is_way))
+
+    abbrev Goal : Option Seen → Type 0
+    Goal b = Matches w (symbol_by (lookup x w (record { scope = s.number; flags = s.flags; bound = b } ∷ map (asked_together p x) q.chain))) (resolve ns (group ++ outer) asked x)
+
+    -- the scope doesn't declare it
+    when_none : seen ≡ [] → Goal None
+    when_none e = elim (in_group ns asked x group outer) [
+      | inl f ↦ goal (symbol_by (lookup x w (record { scope = s.number; flags = s.flags; bound = None } ∷ map (asked_together p x) q.chain))) (next_if_none x w no_arguments s.number s.flags (map (asked_together p x) q.chain)) f.0
+      | inr f ↦ (let (d, a, i, j) = f in
+          let (n, b, g) = any_among (has_meaning asked) (declarations_in ns d x) i in
+          let t : Too n = of_declared d a n b in
+          absurd (subst (Among t.made) e (too_among n t)))
+    ]
+
+    -- or it does
+    module _ (first : Made) (more : List Made) (is_seen : seen ≡ first ∷ more) where
+      all_one : (m : Made) → Among m (first ∷ more) → m.symbol ≡ first.symbol
+      all_one m a =
+          let b : Seen' m = of_seen m (subst (Among m) (sym is_seen) a) in
+          let f : Seen' first = of_seen first (subst (Among first) (sym is_seen) (inl refl)) in
+          one_symbol p h common typed numbered x simply m first (among_filter (is_seen_from s x) (made_of p) m (subst (Among m) (sym is_seen) a)).0 (among_filter (is_seen_from s x) (made_of p) first (subst (Among first) (sym is_seen) (inl refl))).0 b.name f.name (b.number ∙ sym f.number)
+
+      together : AreBoundAs (first ∷ more) first.symbol
+      together = bound_as_one first more first.symbol all_one
+
+      abbrev F : ℕ
+      F = together.flags
+
+      any_is : (m : ℕ) → meets F m ≡ any_meets m seen
+      any_is m = together.any m ∙ ap (any_meets m) (sym is_seen)
+
+      bound_is : bound_together p x s ≡ Some (record { symbol = first.symbol; flags = F })
+      bound_is = ap bound_by_all is_seen ∙ together.bound
+
+      same_any : (ms : List Made) → ((m : Made) → Among m ms → meets m.declaration.naming.flags symbol.ByValueAsType.bits ≡ meets m.declaration.naming.flags symbol.ByValue.bits) → any_meets symbol.ByValueAsType.bits ms ≡ any_meets symbol.ByValue.bits ms
+      same_any [] f = refl
+      same_any (m ∷ ms) f = λ i. f m (inl refl) i || same_any ms (λ z a. f z (inr a)) i
+
+      same_value : meets F symbol.ByValueAsType.bits ≡ meets F symbol.ByValue.bits
+      same_value = any_is symbol.ByValueAsType.bits ∙ same_any seen (λ m a. (let b : Seen' m = of_seen m a in b.both.pair.flags.as_type ∙ sym b.both.pair.flags.value)) ∙ sym (any_is symbol.ByValue.bits)
+
+      asks : WayAsks asked w F
+      asks = way_asks w F same_value asked is_way
+
+      -- what one of them is, they are together
+      flag_of : (v : Bool) (mask : ℕ) (m : Made) → Among m seen → (v && meets m.declaration.naming.flags mask) ≡ true → (v && meets F mask) ≡ true
+      flag_of v mask m a e = and_from v (meets F mask) (and_first v (meets m.declaration.naming.flags mask) e) (any_is mask ∙ any_there (λ y. meets y.declaration.naming.flags mask) seen m a (and_second v (meets m.declaration.naming.flags mask) e))
+
+      or_by : (a b c d e f : Bool) → (a ≡ true → d ≡ true) → (b ≡ true → e ≡ true) → (c ≡ true → f ≡ true) → (a || (b || c)) ≡ true → (d || (e || f)) ≡ true
+      or_by true b c d e f g h i j = ap (λ t. t || (e || f)) (g refl)
+      or_by false true c d e f g h i j = ap (λ t. d || (t || f)) (h refl) ∙ or_true d
+        where
+          or_true : (t : Bool) → (t || true) ≡ true
+          or_true true = refl
+          or_true false = refl
+      or_by false false true d e f g h i j = ap (λ t. d || (e || t)) (i refl) ∙ both_true d e
+        where
+          both_true : (t u : Bool) → (t || (u || true)) ≡ true
+          both_true true u = refl
+          both_true false true = refl
+          both_true false false = refl
+      or_by false false false d e f g h i j = absurd (never (sym j))
+
+      asked_up : (m : Made) → Among m seen → is_asked asked m.declaration.naming.flags ≡ true → is_asked asked F ≡ true
+      asked_up m a e =
+          or_by (asked.value && meets m.declaration.naming.flags symbol.ByValue.bits) (asked.is_type && meets m.declaration.naming.flags symbol.ByType.bits) (asked.namespace && meets m.declaration.naming.flags symbol.AsNamespace.bits)
+          (asked.value && meets F symbol.ByValue.bits) (asked.is_type && meets F symbol.ByType.bits) (asked.namespace && meets F symbol.AsNamespace.bits)
+          (flag_of asked.value symbol.ByValue.bits m a) (flag_of asked.is_type symbol.ByType.bits m a) (flag_of asked.namespace symbol.AsNamespace.bits m a) e
+
+      -- and what they are together, one of them is
+      from_flag : (v : Bool) (mask : ℕ) → (v && meets F mask) ≡ true → (m : Made) × Among m seen × ((v && meets m.declaration.naming.flags mask) ≡ true)
+      from_flag v mask e =
+          let (m, a, i) = any_among (λ y. meets y.declaration.naming.flags mask) seen (sym (any_is mask) ∙ and_second v (meets F mask) e) in
+          (m, a, and_from v (meets m.declaration.naming.flags mask) (and_first v (meets F mask) e) i)
+
+      asked_down : is_asked asked F ≡ true → (m : Made) × Among m seen × (is_asked asked m.declaration.naming.flags ≡ true)
+      asked_down e = by (asked.value && meets F symbol.ByValue.bits) (asked.is_type && meets F symbol.ByType.bits) (asked.namespace && meets F symbol.AsNamespace.bits) refl refl refl e
+        where
+          one : (u v : Bool) → u ≡ true → (u || v) ≡ true
+          one true v i = refl
+          one false v i = absurd (never (sym i))
+
+          two : (t u v : Bool) → u ≡ true → (t || (u || v)) ≡ true
+          two true u v i = refl
+          two false true v i = refl
+          two false false v i = absurd (never (sym i))
+
+          three : (t u v : Bool) → v ≡ true → (t || (u || v)) ≡ true
+          three true u v i = refl
+          three false true v i = refl
+          three false false true i = refl
+          three false false false i = absurd (never (sym i))
+
+          by : (a b c : Bool) → (asked.value && meets F symbol.ByValue.bits) ≡ a → (asked.is_type && meets F symbol.ByType.bits) ≡ b → (asked.namespace && meets F symbol.AsNamespace.bits) ≡ c → (a || (b || c)) ≡ true → (m : Made) × Among m seen × (is_asked asked m.declaration.naming.flags ≡ true)
+          by true b c i j l e = let (m, a, g) = from_flag asked.value symbol.ByValue.bits i in (m, a, one (asked.value && meets m.declaration.naming.flags symbol.ByValue.bits) ((asked.is_type && meets m.declaration.naming.flags symbol.ByType.bits) || (asked.namespace && meets m.declaration.naming.flags symbol.AsNamespace.bits)) g)
+          by false true c i j l e = let (m, a, g) = from_flag asked.is_type symbol.ByType.bits j in (m, a, two (asked.value && meets m.declaration.naming.flags symbol.ByValue.bits) (asked.is_type && meets m.declaration.naming.flags symbol.ByType.bits) (asked.namespace && meets m.declaration.naming.flags symbol.AsNamespace.bits) g)
+          by false false true i j l e = let (m, a, g) = from_flag asked.namespace symbol.AsNamespace.bits l in (m, a, three (asked.value && meets m.declaration.naming.flags symbol.ByValue.bits) (asked.is_type && meets m.declaration.naming.flags symbol.ByType.bits) (asked.namespace && meets m.declaration.naming.flags symbol.AsNamespace.bits) g)
+          by false false false i j l e = absurd (never (sym e))
+
+      -- the identifiers of the container have the symbol
+      all_have : (d : Container) → Among d group → (l : List NamedDeclaration) → ((n : NamedDeclaration) → Among n l → Among n (declarations_in ns d x)) → AllHave (map (λ n. n.identifier) l) first.symbol
+      all_have d b [] f = tt
+      all_have d b (n ∷ l) f =
+          let t : Too n = of_declared d b n (f n (inl refl)) in (
+            subst (λ i. symbol_at (analysis_of p) i ≡ Some first.symbol) (ap (λ z. z.identifier) t.both.told)
+                (symbols_are_at_nodes p h numbered t.made t.among ∙ ap Some (all_one t.made (subst (Among t.made) is_seen (too_among n t)))),
+            all_have d b l (λ z a. f z (inr a)),
+          )
+
+      -- in a header they are type parameters, and no namespaces
+      no_header : meets F symbol.AsNamespace.bits ≡ true → s.in_header ≡ false
+      no_header e = elim (cases_Bool s.in_header) [
+        | inr i ↦ i
+        | inl i ↦ (let (m, a, g) = any_among (λ y. meets y.declaration.naming.flags symbol.AsNamespace.bits) seen (sym (any_is symbol.AsNamespace.bits) ∙ e) in
+            let b : Seen' m = of_seen m a in
+            let free : is_apart b.named.container.kind ≡ false = not-true (is_apart b.named.container.kind) (and_second (is_simple_sort b.named.sort) (not (is_apart b.named.container.kind)) (simply b.named b.both.named b.both.named_so)) in
+            let typed_container : is_container container.TypeParameters b.named.container ≡ true = in_header_types p h common typed numbered x simply alone q entered k r node text tells headed inside s opener header opened c c_entered c_round i b.named.container b.there_so free in
+            let is_parameter : b.named.sort ≡ sort.TypeParameter = types b.named b.both.named b.both.named_so typed_container in
+            absurd (never (sym g ∙ b.both.pair.flags.namespace ∙ ap (λ z. (sort_meanings z).namespace) is_parameter)))
+      ]
+
+      missed : is_asked asked F ≡ true → is_usable w F ≡ false → IsMissed w
+      missed e f =
+          let (namespace, no_type) = asks.missed e f in
+          let plain : s.in_header ≡ false = no_header namespace in
+          let in_scope : seen ≡ filter (is_in_scope s.number x) (made_of p) = rw plain refl in
+          let a : Among first seen = subst (Among first) (sym is_seen) (inl refl) in
+          record {
+            scope = s.number;
+            number = first.symbol;
+            flags = F;
+            made = first;
+            among = (among_filter (is_seen_from s x) (made_of p) first a).0;
+            in_it = (among_filter (is_in_scope s.number x) (made_of p) first (subst (Among first) in_scope a)).1;
+            is = refl;
+            bound = ap bound_by_all (sym in_scope) ∙ bound_is;
+            any = λ m. any_is m ∙ ap (any_meets m) in_scope;
+            namespace = namespace;
+            no_type = no_type;
+            unusable = f;
+          }
+
+      when_some : Goal (Some (record { symbol = first.symbol; flags = F }))
+      when_some = elim (in_group ns asked x group outer) [
+        | inr f ↦ (let (d, a, i, j) = f in
+            let (n, b, g) = any_among (has_meaning asked) (declarations_in ns d x) i in
+            let t : Too n = of_declared d a n b in
+            let is_so : is_asked asked F ≡ true = asked_up t.made (too_among n t) (meaning_is t.made n t.both ∙ g) in
+            elim (cases_Bool (is_usable w F)) [
+              | inl u ↦ inl (subst (Agrees (symbol_by (lookup x w (record { scope = s.number; flags = s.flags; bound = Some (record { symbol = first.symbol; flags = F }) } ∷ map (asked_together p x) q.chain)))) (sym j)
+                  (first.symbol, found_if_usable x w no_arguments s.number s.flags first.symbol F (map (asked_together p x) q.chain) u, all_have d a (declarations_in ns d x) (λ z e. e)))
+              | inr u ↦ inr (inl (missed is_so u))
+            ])
+        | inl f ↦ elim (cases_Bool (is_usable w F)) [
+          | inl u ↦ (let (m, a, g) = asked_down (asks.found u) in
+              let b : Seen' m = of_seen m a in
+              let has : has_it ns asked x b.container ≡ true = any_there (has_meaning asked) (declarations_in ns b.container x) b.named (filter_among (has_declared b.container x) ns b.named b.both.named b.has) (sym (meaning_is m b.named b.both) ∙ g) in
+              absurd (never (sym has ∙ f.1 b.container b.there)))
+          | inr u ↦ goal (symbol_by (lookup x w (record { scope = s.number; flags = s.flags; bound = Some (record { symbol = first.symbol; flags = F }) } ∷ map (asked_together p x) q.chain)))
+              (next_if_unusable x w no_arguments s.number s.flags first.symbol F (map (asked_together p x) q.chain) u) f.0
+        ]
+      ]
+
+    within_scope : Goal (bound_together p x s)
+    within_scope = by seen refl
+      where
+        by : (l : List Made) → seen ≡ l → Goal (bound_together p x s)
+        by [] e = subst Goal (sym (ap bound_by_all e)) (when_none e)
+        by (m ∷ ms) e = subst Goal (sym (bound_is m ms e)) (when_some m ms e)
+
+  -- ---- all places
+
+  abbrev pub AgreedStep : Step → Type 0
+  AgreedStep (entering q) = AgreesRound q
+  AgreedStep (opening q o) = Unit {0}
+  AgreedStep (header_ending q o) = Unit {0}
+  AgreedStep (closing q o) = Unit {0}
+  AgreedStep (leaving q) = Unit {0}
+
+  abbrev table : List ℕ
+  table = openers (steps p)
+
+  -- what is known of all steps
+  abbrev Entered : Step → Type 0
+  Entered = OfEntered (IsEnteredIn (steps p))
+
+  child_agrees : (q : Place) (entered : Among (entering q) (steps p)) (k : IsCommonPlace p q) (agree : AgreesRound q) (r : Role) (node : Node) (text : List ℕ)
+      (tells : tells_inside q.node.kind r node.kind text ≡ true) (headed : tells_header q.node.kind r node.kind text ≡ true)
+      (chain : List OpenScope) → ChainOf q.node.kind r q.node q.chain chain → AllOpened table chain → (c : Place) → Among (entering c) (steps p) → c.chain ≡ chain
+      → round_place p c ≡ containers_by q.node.kind p.source_type q.node q.path (round_place p q) node ++ round_place p q → AgreesRound c
+  child_agrees q entered k agree r node text tells headed chain (outer_chain i) opened c c_entered e c_round asked w is_way =
+      let g : List Container = containers_by q.node.kind p.source_type q.node q.path (round_place p q) node in
+      let skipped : resolve ns (g ++ round_place p q) asked x ≡ resolve ns (round_place p q) asked x =
+      aside_group g (round_place p q) (λ d a. aside_of p.source_type q.node node q.path (round_place p q) r q.node.kind d k.no_with i (told_by_kind q.node.kind r node.kind text tells) a) asked in
+      subst (λ l. Matches w (looked_up w l) (resolve ns (round_place p c) asked x)) (sym e)
+      (subst (λ l. Matches w (looked_up w q.chain) (resolve ns l asked x)) (sym c_round) (subst (Matches w (looked_up w q.chain)) (sym skipped) (agree asked w is_way)))
+  child_agrees q entered k agree r node text tells headed chain (inner_chain s i opener header lasting) opened c c_entered e c_round asked w is_way =
+      subst (λ l. Matches w (looked_up w l) (resolve ns (round_place p c) asked x)) (sym e)
+      (subst (λ l. Matches w (looked_up w (s ∷ q.chain)) (resolve ns l asked x)) (sym c_round)
+      (within_scope q entered k agree r node text tells headed i s opener header opened.0 c c_entered c_round asked w is_way))
+
+  agreed_below : (q : Place) (own : Option OpenScope) (n cursor : ℕ) (f : Forest) → Among (entering q) (steps p) → IsCommonPlace p q → AgreesRound q → OwnOf q own → is_common_forest q.node.kind f ≡ true → holds_below tells_inside q.node.kind f ≡ true → holds_below tells_header q.node.kind f ≡ true
+      → EachStep Entered (steps_below q own n cursor f) → EachStep (CommonStep p) (steps_below q own n cursor f) → EachStep (IsPlaceOpened table) (steps_below q own n cursor f) → EachStep AgreedStep (steps_below q own n cursor f)
+  agreed_below q own n cursor nothing a k g o c t h es ks os = last_case (EachStep AgreedStep) q own n tt (tt, (tt, tt))
+  agreed_below q own n cursor (tree r k2 span text marks below id after) a k g o c t h es ks os =
+      let node : Node = record { kind = k2; span = span; text = text; marks = marks; children = below; node_id = id } in
+      let turn : Turn = turn_at q own n cursor r node after in
+      let entered : EachOfTurn Entered turn = turn_of_each Entered turn es in
+      let commons : EachOfTurn (CommonStep p) turn = turn_of_each (CommonStep p) turn ks in
+      let opens : EachOfTurn (IsPlaceOpened table) turn = turn_of_each (IsPlaceOpened table) turn os in
+      let here : is_common_child q.node.kind r k2 ≡ true = and_first (is_common_child q.node.kind r k2) (is_common_forest k2 below && is_common_forest q.node.kind after) c in
+      let forests : (is_common_forest k2 below && is_common_forest q.node.kind after) ≡ true = and_second (is_common_child q.node.kind r k2) (is_common_forest k2 below && is_common_forest q.node.kind after) c in
+      let decorated : Bool = holds_kind (kind.FormalParameter ∷ kind.FormalParameterRest ∷ []) q.node.kind && same_kind k2 kind.Decorator in
+      let undecorated : (not (is_parameter_decorator q.node.kind r) && not decorated) ≡ true = and_second (not (same_kind k2 kind.WithStatement)) (not (is_parameter_decorator q.node.kind r) && not decorated) here in
+      let tells : (holds_below tells_inside k2 below && holds_below tells_inside q.node.kind after) ≡ true = and_second (tells_inside q.node.kind r k2 text) (holds_below tells_inside k2 below && holds_below tells_inside q.node.kind after) t in
+      let headed : (holds_below tells_header k2 below && holds_below tells_header q.node.kind after) ≡ true = and_second (tells_header q.node.kind r k2 text) (holds_below tells_header k2 below && holds_below tells_header q.node.kind after) h in
+      let own_is : OwnOf q turn.scope = own_of q r own n o in
+      let plain : decorated ≡ false = not-true decorated (and_second (not (is_parameter_decorator q.node.kind r)) (not decorated) undecorated) in
+      let child : AgreesRound turn.child = child_agrees q a k g r node text
+      (and_first (tells_inside q.node.kind r k2 text) (holds_below tells_inside k2 below && holds_below tells_inside q.node.kind after) t)
+      (and_first (tells_header q.node.kind r k2 text) (holds_below tells_header k2 below && holds_below tells_header q.node.kind after) h)
+      (child_place q turn.scope cursor r node).chain
+      (chain_of q r turn.scope cursor node (not-true (is_parameter_decorator q.node.kind r) (and_first (not (is_parameter_decorator q.node.kind r)) (not decorated) undecorated)) (is_open_inside q r own n) own_is)
+      opens.whole.0 turn.child entered.whole.0 refl
+      (ap (λ b. cond b (outside_function (round_place p q)) (containers_by q.node.kind p.source_type q.node q.path (round_place p q) node ++ round_place p q)) plain) in
+      each_of_turn AgreedStep turn (record {
+        before = opening_case (EachStep AgreedStep) q r own n tt (tt, tt);
+        whole = each_of_node AgreedStep turn.child turn.below child
+            (agreed_below turn.child None turn.next turn.inner below entered.whole.0 commons.whole.0 child tt (and_first (is_common_forest k2 below) (is_common_forest q.node.kind after) forests) (and_first (holds_below tells_inside k2 below) (holds_below tells_inside q.node.kind after) tells) (and_first (holds_below tells_header k2 below) (holds_below tells_header q.node.kind after) headed)
+            (each_left Entered turn.below (leaving turn.child ∷ []) entered.whole.1) (each_left (CommonStep p) turn.below (leaving turn.child ∷ []) commons.whole.1) (each_left (IsPlaceOpened table) turn.below (leaving turn.child ∷ []) opens.whole.1)) tt;
+        behind = ending_case (EachStep AgreedStep) q r turn.scope after tt (λ o. (tt, tt)) (λ o. (tt, tt)) (λ o. (tt, (tt, tt)));
+        others = agreed_below q turn.scope turn.rest turn.past after a k g own_is (and_second (is_common_forest k2 below) (is_common_forest q.node.kind after) forests) (and_second (holds_below tells_inside k2 below) (holds_below tells_inside q.node.kind after) tells) (and_second (holds_below tells_header k2 below) (holds_below tells_header q.node.kind after) headed)
+            entered.others commons.others opens.others;
+      })
+
+  -- outermost there is what `global` blocks declare
+  root_agrees : AgreesRound (root_place p)
+  root_agrees asked w is_way = by (has_it ns asked x no_container) refl
+    where
+      by : (b : Bool) → has_it ns asked x no_container ≡ b → Matches w None (cond b (declared_in no_container (map (λ n. n.identifier) (declarations_in ns no_container x))) nowhere)
+      by false e = inl refl
+      by true e =
+          let (n, a, i) = any_among (has_meaning asked) (declarations_in ns no_container x) e in
+          let (b, j) = among_filter (has_declared no_container x) ns n a in
+          let (d, both) = of_language p h common typed numbered x simply n b (named_x no_container n j) in
+          let (y, made) = made_so p h common typed numbered x simply d both.among in
+          inr (inr (record { free = refl; made = record { declaration = d; symbol = y }; among = made; named = ap (λ t. t.name) both.told ∙ both.named_so }))
+
+  pub agreed_places : EachStep AgreedStep (steps p)
+  agreed_places =
+      let root : Place = root_place p in
+      let n : ℕ = on_entering p.root.kind 0 in
+      let below : List Step = steps_below root None 0 n p.root.children in
+      let es : EachStep Entered (steps p) = all_entered (steps p) (steps p) (λ st a. a) in
+      let ks : EachStep (CommonStep p) (steps p) = common_places p h common in
+      let os : EachStep (IsPlaceOpened table) (steps p) = places_opened p in
+      each_of_node AgreedStep root below root_agrees
+      (agreed_below root None 0 n p.root.children es.0 ks.0 root_agrees tt common (tree_tells p h) (tree_headed p h) (each_left Entered below (leaving root ∷ []) es.1) (each_left (CommonStep p) below (leaving root ∷ []) ks.1) (each_left (IsPlaceOpened table) below (leaving root ∷ []) os.1)) tt

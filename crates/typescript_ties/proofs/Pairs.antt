@@ -1,0 +1,412 @@
+-- Each declaration that the tables are told with the one of the language that it is.
+use Rattle.std.proofs.Common.{◌≡◌, ℕ, List, [], ◌∷◌, ◌++◌, None, Bool, true, false, ◌&&◌, ◌||◌, not, cond, map, flat_map, refl, sym, ap, subst, ◌∙◌, inl, inr, ◌⊎◌, codes, if◌then◌else◌}
+use Rattle.std.specs.List.{list_any}
+use Rattle.std.proofs.lemmas.Bool.{not-true}
+use Rattle.semantic_syntax.proofs.Truth.{and_first, and_second}
+use Rattle.semantic_kinds.specs.Kinds.{same_kind}
+use Rattle.semantic_kinds.specs.declared.kind.AstType.{AstType}
+use Rattle.semantic_kinds.specs.declared.kind.AstType.TheVariants as kind
+use Rattle.semantic_kinds.specs.declared.mark.Mark.TheVariants as mark
+use Rattle.semantic_kinds.specs.declared.role.Role.TheVariants as role
+use Rattle.semantic_syntax.specs.Sets.{meets, union}
+use Rattle.semantic_syntax.specs.SourceTypes.{is_typescript}
+use Rattle.semantic_syntax.specs.declared.source_type.SourceType.{SourceType}
+use Rattle.semantic_syntax.specs.declared.symbol_flags.TheConstants.SymbolFlags as symbol
+use Rattle.semantic_tree.specs.Tree.{Tree}
+use Rattle.semantic_tree.specs.Views.{is, is_with_text, has, children_of}
+use Rattle.semantic_tree.specs.declared.node.Node.{Node}
+use Rattle.semantic_model.specs.Binder.{BinderRow, declaration_at, ambient_if, is_var, is_special, is_statement, lexical_flags, variable_row, variables_under, is_pure_declarator, is_block_function, is_clause, is_conditional, function_excluded, class_row, parameter_excluded, parameters_under, catch_names, marked_ambient, member_named, namespace_row, type_parameter_row, ids, declared_by, declared_inside}
+use Rattle.semantic_model.specs.Declaration.{Declaration, plain, hoisted, moved, caught, here, outward_to, outward_past}
+use Rattle.semantic_model.specs.Entries.{Among}
+use Rattle.semantic_model.specs.Names.{bound_names, bound_below, names_at}
+use Rattle.semantic_model.specs.Namespace.{InstanceState, non_instantiated, const_enum_only, instantiated, instance_state, nodes_around}
+use Rattle.semantic_model.specs.Place as place
+use Rattle.semantic_model.specs.Place.{Place, OpenScope, innermost}
+use Rattle.semantic_model.specs.ScopeKind.{opened_scope}
+use Rattle.semantic_model.specs.Step.{entering, steps}
+use Rattle.std.proofs.lemmas.List.{append-nil, map-append}
+use denote.Enum.Bare.{same_true}
+use Rattle.typescript_ties.specs.contracts.container_kind.ContainerKind.{the_type as the_container_kinds}
+use Rattle.typescript_ties.specs.declared.container_kind.ContainerKind.{ContainerKind}
+use Rattle.typescript_ties.specs.Containers.{Container, is_container, same_container_kind, same_container, container_of, bound_container, is_exported_under}
+use Rattle.typescript_ties.specs.DeclaredNames.{told_to_tables, told_by_language}
+use Rattle.typescript_ties.specs.MeaningSets.{sort_meanings}
+use Rattle.typescript_ties.specs.NamedDeclarations.{NamedDeclaration, named_declaration, global_besides, declared_here, imported_as, declared_outward, variables_named, leaves_its_block, namespace_sort, first_condition, named_by_node}
+use Rattle.typescript_ties.specs.SimpleNames.{is_simple_sort, is_apart, is_simple}
+use Rattle.typescript_ties.specs.declared.container_kind.ContainerKind.TheVariants as container
+use Rattle.typescript_ties.specs.declared.declaration_sort.DeclarationSort.{DeclarationSort}
+use Rattle.typescript_ties.specs.declared.declaration_sort.DeclarationSort.TheVariants as sort
+use Rattle.typescript_ties.proofs.HeadPlaces.{HeadAt, HasOrigin, IsHeaded, IsCommonPlace, round_place}
+use Rattle.typescript_ties.proofs.KnownPlaces.{is_bare_rest}
+
+never : true ≡ false → ⊥
+never h = absurd cc
+
+pub container_kind_is : (a b : ContainerKind) → same_container_kind a b ≡ true → a ≡ b
+container_kind_is a b h = same_true the_container_kinds tt a b h
+
+-- the flags of a sort
+pub record FlagsAre (k : DeclarationSort) (flags : ℕ) : Type 0 where
+  pub value : meets flags symbol.ByValue.bits ≡ (sort_meanings k).value
+  pub as_type : meets flags symbol.ByValueAsType.bits ≡ (sort_meanings k).value
+  pub is_type : meets flags symbol.ByType.bits ≡ (sort_meanings k).is_type
+  pub namespace : meets flags symbol.AsNamespace.bits ≡ (sort_meanings k).namespace
+  pub no_own : meets flags symbol.FunctionExpression.bits ≡ false
+
+module _ (p : Tree) where
+  abbrev s : SourceType
+  s = p.source_type
+
+  -- the declaration goes where the container is
+  pub record IsAtHome (w : Declaration) (n : NamedDeclaration) : Type 0 where
+    pub opener : w.route.target.opener ≡ n.container.node
+    pub lasting : w.route.target.body ≡ None
+    pub in_body : is_container container.Body n.container ≡ true → w.route.target.in_header ≡ false
+    pub in_header : is_container container.TypeParameters n.container ≡ true → IsHeaded p w.route.target
+    pub origin : HasOrigin p n.container
+    pub place : Place
+    pub entered : Among (entering place) (steps p)
+    pub target : w.route.target ≡ innermost place.chain
+
+  pub record IsSimplePair (w : Declaration) (n : NamedDeclaration) : Type 0 where
+    pub how : w.how ≡ plain
+    pub flags : FlagsAre n.sort w.naming.flags
+    pub home : IsAtHome w n
+    pub also : (c : Container) → same_container_kind container.Globals c.kind ≡ false → list_any (λ e. same_container e c) n.also ≡ false
+
+  pub record IsPair (w : Declaration) (n : NamedDeclaration) : Type 0 where
+    pub told : told_to_tables w ≡ told_by_language n
+    pub simple : is_simple n ≡ true → IsSimplePair w n
+
+  abbrev pub AllPairs : List Declaration → List NamedDeclaration → Type 0
+  AllPairs [] [] = Unit {0}
+  AllPairs (w ∷ ws) (n ∷ ns) = IsPair w n × AllPairs ws ns
+  AllPairs ws ns = ⊥
+
+  map_pairs : (f : Node → Declaration) (g : Node → NamedDeclaration) (names : List Node) → ((id : Node) → IsPair (f id) (g id)) → AllPairs (map f names) (map g names)
+  map_pairs f g [] h = tt
+  map_pairs f g (x ∷ xs) h = (h x, map_pairs f g xs h)
+
+  join_pairs : (ws us : List Declaration) (ns vs : List NamedDeclaration) → AllPairs ws ns → AllPairs us vs → AllPairs (ws ++ us) (ns ++ vs)
+  join_pairs [] us [] vs h k = k
+  join_pairs [] us (n ∷ ns) vs h k = absurd h
+  join_pairs (w ∷ ws) us [] vs h k = absurd h
+  join_pairs (w ∷ ws) us (n ∷ ns) vs h k = (h.0, join_pairs ws us ns vs h.1 k)
+
+  map_pairs_last : (f : Node → Declaration) (g : Node → NamedDeclaration) (names : List Node) → ((id : Node) → IsPair (f id) (g id)) → AllPairs (map f names ++ []) (map g names)
+  map_pairs_last f g names h = subst (λ l. AllPairs l (map g names)) (sym (append-nil (map f names))) (map_pairs f g names h)
+
+  pub pair_of_written : (ws : List Declaration) (ns : List NamedDeclaration) → AllPairs ws ns → (w : Declaration) → Among w ws → (n : NamedDeclaration) × Among n ns × IsPair w n
+  pair_of_written [] ns h w a = absurd a
+  pair_of_written (y ∷ ws) [] h w a = absurd h
+  pair_of_written (y ∷ ws) (n ∷ ns) h w (inl e) = (n, inl refl, subst (λ z. IsPair z n) e h.0)
+  pair_of_written (y ∷ ws) (n ∷ ns) h w (inr a) = let (m, b, c) = pair_of_written ws ns h.1 w a in (m, inr b, c)
+
+  pub pair_of_named : (ws : List Declaration) (ns : List NamedDeclaration) → AllPairs ws ns → (n : NamedDeclaration) → Among n ns → (w : Declaration) × Among w ws × IsPair w n
+  pair_of_named ws [] h n a = absurd a
+  pair_of_named [] (m ∷ ns) h n a = absurd h
+  pair_of_named (w ∷ ws) (m ∷ ns) h n (inl e) = (w, inl refl, subst (λ z. IsPair w z) e h.0)
+  pair_of_named (w ∷ ws) (m ∷ ns) h n (inr a) = let (v, b, c) = pair_of_named ws ns h.1 n a in (v, inr b, c)
+
+  -- ---- one place
+
+  module _ (q : Place) (entered : Among (entering q) (steps p)) (k : IsCommonPlace p q) (typed : is_typescript s ≡ true) (count : ℕ) where
+    abbrev cs : List Container
+    cs = round_place p q
+
+    abbrev own : OpenScope
+    own = opened_scope q count
+
+    abbrev not_apart : (n : NamedDeclaration) → is_simple n ≡ true → is_apart n.container.kind ≡ false
+    not_apart n e = not-true (is_apart n.container.kind) (and_second (is_simple_sort n.sort) (not (is_apart n.container.kind)) e)
+
+    -- declared where the node stands
+    at_head : (w : Declaration) (n : NamedDeclaration) (b : Bool) → w.route.target ≡ innermost q.chain → n.container ≡ bound_container b cs → is_apart n.container.kind ≡ false → IsAtHome w n
+    at_head w n b t e a =
+        let h : HeadAt p q = k.head in
+        let free : is_apart (bound_container b cs).kind ≡ false = subst (λ c. is_apart c.kind ≡ false) e a in
+        record {
+          opener = ap (λ o. o.opener) t ∙ h.opener b free ∙ ap (λ c. c.node) (sym e);
+          lasting = ap (λ o. o.body) t ∙ h.lasting b free;
+          in_body = λ i. ap (λ o. o.in_header) t ∙ h.in_body b (subst (λ c. is_container container.Body c ≡ true) e i);
+          in_header = λ i. subst (IsHeaded p) (sym t) (h.in_header b (subst (λ c. is_container container.TypeParameters c ≡ true) e i));
+          place = q;
+          entered = entered;
+          target = t;
+          origin = origin_of (h.origin n.container (subst (λ c. Among c cs) (sym e) (h.among b free)));
+        }
+      where
+        origin_of : (is_apart n.container.kind ≡ true) ⊎ HasOrigin p n.container → HasOrigin p n.container
+        origin_of (inl i) = absurd (never (sym i ∙ a))
+        origin_of (inr o) = o
+
+    pair_here : (flags excluded : ℕ) (pure : Bool) (j : DeclarationSort) (b : Bool) (also : List Container) → FlagsAre j flags → ((c : Container) → same_container_kind container.Globals c.kind ≡ false → list_any (λ e. same_container e c) also ≡ false) → (id : Node)
+        → IsPair (declaration_at q.node (record { flags = flags; excluded = excluded; how = plain; route = here q.chain }) pure id) (named_declaration j (bound_container b cs) also id)
+    pair_here flags excluded pure j b also f g id = record {
+      told = refl;
+      simple = λ e. record { how = refl; flags = f; home = at_head (declaration_at q.node (record { flags = flags; excluded = excluded; how = plain; route = here q.chain }) pure id) (named_declaration j (bound_container b cs) also id) b refl refl (not_apart (named_declaration j (bound_container b cs) also id) e); also = g };
+    }
+
+    nothing_else : (c : Container) → same_container_kind container.Globals c.kind ≡ false → list_any (λ e. same_container e c) [] ≡ false
+    nothing_else c e = refl
+
+    -- what is global beside is in no other container
+    beside : (d : Container) (c : Container) → same_container_kind container.Globals c.kind ≡ false → list_any (λ e. same_container e c) (global_besides d) ≡ false
+    beside d c e = go (is_container container.GlobalMembers d)
+      where
+        go : (t : Bool) → list_any (λ e. same_container e c) (cond t (record { kind = container.Globals; node = 0; members = None } ∷ []) []) ≡ false
+        go true = rw e refl
+        go false = refl
+
+    sort_here : (flags excluded : ℕ) (pure : Bool) (j : DeclarationSort) → FlagsAre j flags → (id : Node)
+        → IsPair (declaration_at q.node (record { flags = flags; excluded = excluded; how = plain; route = here q.chain }) pure id) (declared_here j s q.node q.path id)
+    sort_here flags excluded pure j f id =
+        let b : Bool = is_exported_under s q.path in
+        pair_here flags excluded pure j b (global_besides (bound_container b cs)) f (beside (bound_container b cs)) id
+
+    import_here : (flags excluded : ℕ) (j : DeclarationSort) → FlagsAre j flags → (id : Node)
+        → IsPair (declaration_at q.node (record { flags = flags; excluded = excluded; how = plain; route = here q.chain }) false id) (imported_as j s q.node q.path id)
+    import_here flags excluded j f id =
+        let b : Bool = place.parent_holds (is kind.ExportDeclaration) q.path in
+        pair_here flags excluded false j b (global_besides (bound_container b cs)) f (beside (bound_container b cs)) id
+
+    -- of a sort that isn't simple
+    unsimple : (w : Declaration) (n : NamedDeclaration) → is_simple_sort n.sort ≡ false → told_to_tables w ≡ told_by_language n → IsPair w n
+    unsimple w n e t = record { told = t; simple = λ i. absurd (never (sym (and_first (is_simple_sort n.sort) (not (is_apart n.container.kind)) i) ∙ e)) }
+
+    -- ---- row by row
+
+    abbrev Paired : AstType → Type 0
+    Paired j = AllPairs (declared_inside j q own ++ declared_by j q) (named_by_node j s q.node q.path)
+
+    lexical_are : (t a : Bool) → FlagsAre sort.Lexical (union (cond t symbol.BlockScopedVariable.bits (union symbol.BlockScopedVariable.bits symbol.ConstVariable.bits)) (ambient_if a))
+    lexical_are true true = record { value = refl; as_type = refl; is_type = refl; namespace = refl; no_own = refl }
+    lexical_are true false = record { value = refl; as_type = refl; is_type = refl; namespace = refl; no_own = refl }
+    lexical_are false true = record { value = refl; as_type = refl; is_type = refl; namespace = refl; no_own = refl }
+    lexical_are false false = record { value = refl; as_type = refl; is_type = refl; namespace = refl; no_own = refl }
+
+    function_are : (a t : Bool) → FlagsAre sort.Function (union (union symbol.Function.bits (ambient_if a)) (union 0 (cond t symbol.AsyncOrGeneratorFunction.bits 0)))
+    function_are true true = record { value = refl; as_type = refl; is_type = refl; namespace = refl; no_own = refl }
+    function_are true false = record { value = refl; as_type = refl; is_type = refl; namespace = refl; no_own = refl }
+    function_are false true = record { value = refl; as_type = refl; is_type = refl; namespace = refl; no_own = refl }
+    function_are false false = record { value = refl; as_type = refl; is_type = refl; namespace = refl; no_own = refl }
+
+    class_are : (a : Bool) → FlagsAre sort.Class (union symbol.Class.bits (ambient_if a))
+    class_are true = record { value = refl; as_type = refl; is_type = refl; namespace = refl; no_own = refl }
+    class_are false = record { value = refl; as_type = refl; is_type = refl; namespace = refl; no_own = refl }
+
+    alias_are : (a : Bool) → FlagsAre sort.TypeAlias (union symbol.TypeAlias.bits (ambient_if a))
+    alias_are true = record { value = refl; as_type = refl; is_type = refl; namespace = refl; no_own = refl }
+    alias_are false = record { value = refl; as_type = refl; is_type = refl; namespace = refl; no_own = refl }
+
+    interface_are : (a : Bool) → FlagsAre sort.Interface (union symbol.Interface.bits (ambient_if a))
+    interface_are true = record { value = refl; as_type = refl; is_type = refl; namespace = refl; no_own = refl }
+    interface_are false = record { value = refl; as_type = refl; is_type = refl; namespace = refl; no_own = refl }
+
+    const_enum_are : (a : Bool) → FlagsAre sort.Enum (union symbol.ConstEnum.bits (ambient_if a))
+    const_enum_are true = record { value = refl; as_type = refl; is_type = refl; namespace = refl; no_own = refl }
+    const_enum_are false = record { value = refl; as_type = refl; is_type = refl; namespace = refl; no_own = refl }
+
+    enum_are : (a : Bool) → FlagsAre sort.Enum (union symbol.RegularEnum.bits (ambient_if a))
+    enum_are true = record { value = refl; as_type = refl; is_type = refl; namespace = refl; no_own = refl }
+    enum_are false = record { value = refl; as_type = refl; is_type = refl; namespace = refl; no_own = refl }
+
+    type_namespace_are : (a : Bool) → FlagsAre sort.TypeNamespace (union symbol.NamespaceModule.bits (ambient_if a))
+    type_namespace_are true = record { value = refl; as_type = refl; is_type = refl; namespace = refl; no_own = refl }
+    type_namespace_are false = record { value = refl; as_type = refl; is_type = refl; namespace = refl; no_own = refl }
+
+    namespace_are : (a : Bool) → FlagsAre sort.ValueNamespace (union symbol.ValueModule.bits (ambient_if a))
+    namespace_are true = record { value = refl; as_type = refl; is_type = refl; namespace = refl; no_own = refl }
+    namespace_are false = record { value = refl; as_type = refl; is_type = refl; namespace = refl; no_own = refl }
+
+    import_are : FlagsAre sort.Import symbol.Import.bits
+    import_are = record { value = refl; as_type = refl; is_type = refl; namespace = refl; no_own = refl }
+
+    member_are : FlagsAre sort.EnumMember symbol.EnumMember.bits
+    member_are = record { value = refl; as_type = refl; is_type = refl; namespace = refl; no_own = refl }
+
+    parameter_are : FlagsAre sort.TypeParameter symbol.TypeParameter.bits
+    parameter_are = record { value = refl; as_type = refl; is_type = refl; namespace = refl; no_own = refl }
+
+    variable_pairs : (path : List Node) → q.path ≡ path → AllPairs (variables_under path q) (variables_named s q.node path)
+    variable_pairs [] e = tt
+    variable_pairs (declaration ∷ path) e = subst (λ l. AllPairs (map (declaration_at q.node (variable_row declaration q.chain) (is_pure_declarator q.node)) (bound_names q.node)) (map (cond var (declared_outward sort.Var s q.node l) (declared_here sort.Lexical s q.node l)) (bound_names q.node))) e
+        (map_pairs (declaration_at q.node (variable_row declaration q.chain) (is_pure_declarator q.node)) (cond var (declared_outward sort.Var s q.node q.path) (declared_here sort.Lexical s q.node q.path)) (bound_names q.node) (by var))
+      where
+        var : Bool
+        var = is_with_text kind.VariableDeclaration (codes "var") declaration
+
+        let_text : Bool
+        let_text = is_with_text kind.VariableDeclaration (codes "let") declaration
+
+        far : BinderRow
+        far = record { flags = union symbol.FunctionScopedVariable.bits (marked_ambient declaration); excluded = symbol.FunctionScopedVariableExcludes.bits; how = hoisted; route = outward_to is_var q.chain }
+
+        near : BinderRow
+        near = record { flags = union (lexical_flags declaration) (marked_ambient declaration); excluded = symbol.BlockScopedVariableExcludes.bits; how = plain; route = here q.chain }
+
+        by : (b : Bool) (id : Node) → IsPair (declaration_at q.node (if b then far else near) (is_pure_declarator q.node) id) (cond b (declared_outward sort.Var s q.node q.path) (declared_here sort.Lexical s q.node q.path) id)
+        by true id = unsimple (declaration_at q.node far (is_pure_declarator q.node) id) (declared_outward sort.Var s q.node q.path id) refl refl
+        by false id = sort_here (union (lexical_flags declaration) (marked_ambient declaration)) symbol.BlockScopedVariableExcludes.bits (is_pure_declarator q.node) sort.Lexical (lexical_are let_text (has mark.Declare declaration)) id
+
+    parameter_pairs : (path : List Node) → (path ≡ [] → ⊥) → AllPairs (parameters_under path q) (map (named_declaration sort.Parameter (bound_container false cs) []) (bound_names q.node))
+    parameter_pairs [] e = absurd (e refl)
+    parameter_pairs (list ∷ path) e =
+        let w : Node → Declaration = declaration_at q.node (record { flags = symbol.FunctionScopedVariable.bits; excluded = parameter_excluded list q.chain; how = plain; route = here q.chain }) false in
+        map_pairs w (named_declaration sort.Parameter (bound_container false cs) []) (bound_names q.node) (λ id. unsimple (w id) (named_declaration sort.Parameter (bound_container false cs) [] id) refl refl)
+
+    catch_pairs : (patterns : List Node) → AllPairs (flat_map (catch_names q) patterns) (map (named_declaration sort.CatchName (bound_container false cs) []) (flat_map bound_names patterns))
+    catch_pairs [] = tt
+    catch_pairs (x ∷ xs) =
+        subst (AllPairs (catch_names q x ++ flat_map (catch_names q) xs)) (sym (map-append g (bound_names x) (flat_map bound_names xs)))
+        (join_pairs (catch_names q x) (flat_map (catch_names q) xs) (map g (bound_names x)) (map g (flat_map bound_names xs)) (go (is kind.BindingIdentifier x)) (catch_pairs xs))
+      where
+        g : Node → NamedDeclaration
+        g = named_declaration sort.CatchName (bound_container false cs) []
+
+        row : BinderRow
+        row = record { flags = union symbol.FunctionScopedVariable.bits symbol.CatchVariable.bits; excluded = 0; how = caught; route = here q.chain }
+
+        lexical : BinderRow
+        lexical = record { flags = union symbol.BlockScopedVariable.bits symbol.CatchVariable.bits; excluded = symbol.BlockScopedVariableExcludes.bits; how = plain; route = here q.chain }
+
+        go : (b : Bool) → AllPairs (if b then declaration_at q.node row false x ∷ [] else map (declaration_at q.node lexical false) (cond b (x ∷ []) (bound_below x.kind x.children))) (map g (cond b (x ∷ []) (bound_below x.kind x.children)))
+        go true = (unsimple (declaration_at q.node row false x) (g x) refl refl, tt)
+        go false = map_pairs (declaration_at q.node lexical false) g (bound_below x.kind x.children) (λ id. unsimple (declaration_at q.node lexical false id) (g id) refl refl)
+
+    blocked : (a b c d : Bool) → b ≡ true → (((a && not b) && c) && d) ≡ false
+    blocked true true c d e = refl
+    blocked false true c d e = refl
+    blocked a false c d e = absurd (never (sym e))
+
+    not_moved : is_block_function q ≡ false
+    not_moved = blocked (not (is_special q.node)) (is_typescript q.source_type) (not (place.is_strict q.chain)) (not (is_var (innermost q.chain) || is_clause (innermost q.chain))) (ap is_typescript k.source ∙ typed)
+
+    function_pairs : Paired kind.Function
+    function_pairs = go (is_statement q.node) refl
+      where
+        far : Node → NamedDeclaration
+        far = declared_outward sort.BlockFunction s q.node q.path
+
+        near : Node → NamedDeclaration
+        near = declared_here sort.Function s q.node q.path
+
+        pure : Bool
+        pure = has mark.Pure q.node
+
+        flags_by : Bool → ℕ
+        flags_by b = union (union symbol.Function.bits (marked_ambient q.node)) (union (cond b 0 symbol.FunctionExpression.bits) (cond (is_special q.node) symbol.AsyncOrGeneratorFunction.bits 0))
+
+        row_by : Bool → Bool → BinderRow
+        row_by b t = if t then record { flags = flags_by b; excluded = function_excluded q; how = moved; route = outward_past is_var q.chain } else record { flags = flags_by b; excluded = function_excluded q; how = plain; route = here q.chain }
+
+        near_or_far : (t : Bool) (id : Node) → IsPair (declaration_at q.node (row_by true false) pure id) (cond t far near id)
+        near_or_far true id = unsimple (declaration_at q.node (row_by true false) pure id) (far id) refl refl
+        near_or_far false id = sort_here (flags_by true) (function_excluded q) pure sort.Function (function_are (has mark.Declare q.node) (is_special q.node)) id
+
+        declared : (t : Bool) → t ≡ false → AllPairs (map (declaration_at q.node (row_by true t) pure) (ids q.node)) (map (cond (leaves_its_block s q.node q.path) far near) (ids q.node))
+        declared true e = absurd (never e)
+        declared false e = map_pairs (declaration_at q.node (row_by true false) pure) (cond (leaves_its_block s q.node q.path) far near) (ids q.node) (near_or_far (leaves_its_block s q.node q.path))
+
+        go : (b : Bool) → is_statement q.node ≡ b
+            → AllPairs (cond b [] (map (declaration_at q.node (record { flags = flags_by b; excluded = function_excluded q; how = plain; route = here (own ∷ []) }) pure) (ids q.node)) ++ cond b (map (declaration_at q.node (row_by b (is_block_function q)) pure) (ids q.node)) [])
+            (map (cond b (cond (leaves_its_block s q.node q.path) far near) (named_declaration sort.FunctionName (container_of container.OwnName q.node) [])) (ids q.node))
+        go true e = declared (is_block_function q) not_moved
+        go false e =
+            let w : Node → Declaration = declaration_at q.node (record { flags = flags_by false; excluded = function_excluded q; how = plain; route = here (own ∷ []) }) pure in
+            map_pairs_last w (named_declaration sort.FunctionName (container_of container.OwnName q.node) []) (ids q.node) (λ id. unsimple (w id) (named_declaration sort.FunctionName (container_of container.OwnName q.node) [] id) refl refl)
+
+    class_pairs : Paired kind.Class
+    class_pairs = go (is_statement q.node)
+      where
+        own_name : Node → NamedDeclaration
+        own_name = named_declaration sort.ClassName (container_of container.OwnName q.node) []
+
+        go : (b : Bool) → AllPairs (cond b [] (map (declaration_at q.node (class_row q (own ∷ [])) false) (ids q.node)) ++ cond b (map (declaration_at q.node (class_row q q.chain) false) (ids q.node)) [])
+            (map (cond b (declared_here sort.Class s q.node q.path) own_name) (ids q.node))
+        go true = map_pairs (declaration_at q.node (class_row q q.chain) false) (declared_here sort.Class s q.node q.path) (ids q.node) (λ id. sort_here (union symbol.Class.bits (marked_ambient q.node)) symbol.ClassExcludes.bits false sort.Class (class_are (has mark.Declare q.node)) id)
+        go false = map_pairs_last (declaration_at q.node (class_row q (own ∷ [])) false) own_name (ids q.node) (λ id. unsimple (declaration_at q.node (class_row q (own ∷ [])) false id) (own_name id) refl refl)
+
+    mapped_pairs : Paired kind.TSMappedType
+    mapped_pairs =
+        let w : Node → Declaration = declaration_at q.node (type_parameter_row (here (own ∷ []))) false in
+        map_pairs_last w (named_declaration sort.MappedKey (container_of container.TypeParameters q.node) []) (names_at role.Key q.node) (λ id. unsimple (w id) (named_declaration sort.MappedKey (container_of container.TypeParameters q.node) [] id) refl refl)
+
+    import_pairs : Paired kind.ImportSpecifier
+    import_pairs = go (has mark.TypeOnly q.node || place.parent_holds (has mark.TypeOnly) q.path)
+      where
+        row_by : Bool → BinderRow
+        row_by b = record { flags = cond b symbol.TypeImport.bits symbol.Import.bits; excluded = symbol.ImportBindingExcludes.bits; how = plain; route = here q.chain }
+
+        go : (b : Bool) → AllPairs (map (declaration_at q.node (row_by b) false) (names_at role.Local q.node)) (map (imported_as (cond b sort.TypeImport sort.Import) s q.node q.path) (names_at role.Local q.node))
+        go true = map_pairs (declaration_at q.node (row_by true) false) (imported_as sort.TypeImport s q.node q.path) (names_at role.Local q.node) (λ id. unsimple (declaration_at q.node (row_by true) false id) (imported_as sort.TypeImport s q.node q.path id) refl refl)
+        go false = map_pairs (declaration_at q.node (row_by false) false) (imported_as sort.Import s q.node q.path) (names_at role.Local q.node) (import_here symbol.Import.bits symbol.ImportBindingExcludes.bits sort.Import import_are)
+
+    -- all names of a row that is plain and here
+    here_pairs : (flags excluded : ℕ) (j : DeclarationSort) (names : List Node) → FlagsAre j flags → AllPairs (map (declaration_at q.node (record { flags = flags; excluded = excluded; how = plain; route = here q.chain }) false) names) (map (declared_here j s q.node q.path) names)
+    here_pairs flags excluded j names f = map_pairs (declaration_at q.node (record { flags = flags; excluded = excluded; how = plain; route = here q.chain }) false) (declared_here j s q.node q.path) names (sort_here flags excluded false j f)
+
+    enum_pairs : Paired kind.TSEnumDeclaration
+    enum_pairs = go (has mark.Const q.node)
+      where
+        go : (b : Bool) → AllPairs (if b then map (declaration_at q.node (record { flags = union symbol.ConstEnum.bits (marked_ambient q.node); excluded = symbol.ConstEnumExcludes.bits; how = plain; route = here q.chain }) false) (ids q.node)
+            else map (declaration_at q.node (record { flags = union symbol.RegularEnum.bits (marked_ambient q.node); excluded = symbol.RegularEnumExcludes.bits; how = plain; route = here q.chain }) false) (ids q.node))
+            (map (declared_here sort.Enum s q.node q.path) (ids q.node))
+        go true = here_pairs (union symbol.ConstEnum.bits (marked_ambient q.node)) symbol.ConstEnumExcludes.bits sort.Enum (ids q.node) (const_enum_are (has mark.Declare q.node))
+        go false = here_pairs (union symbol.RegularEnum.bits (marked_ambient q.node)) symbol.RegularEnumExcludes.bits sort.Enum (ids q.node) (enum_are (has mark.Declare q.node))
+
+    namespace_pairs : (i : InstanceState) → AllPairs (namespace_row i q) (map (declared_here (namespace_sort i) s q.node q.path) (ids q.node))
+    namespace_pairs non_instantiated = here_pairs (union symbol.NamespaceModule.bits (marked_ambient q.node)) symbol.NamespaceModuleExcludes.bits sort.TypeNamespace (ids q.node) (type_namespace_are (has mark.Declare q.node))
+    namespace_pairs const_enum_only = here_pairs (union symbol.ValueModule.bits (marked_ambient q.node)) symbol.ValueModuleExcludes.bits sort.ValueNamespace (ids q.node) (namespace_are (has mark.Declare q.node))
+    namespace_pairs instantiated = here_pairs (union symbol.ValueModule.bits (marked_ambient q.node)) symbol.ValueModuleExcludes.bits sort.ValueNamespace (ids q.node) (namespace_are (has mark.Declare q.node))
+
+    member_pairs : Paired kind.TSEnumMember
+    member_pairs =
+        map_pairs (declaration_at q.node (record { flags = symbol.EnumMember.bits; excluded = symbol.EnumMemberExcludes.bits; how = plain; route = here q.chain }) false) (named_declaration sort.EnumMember (bound_container false cs) []) (flat_map (member_named q.node) (children_of role.Id q.node.children))
+        (pair_here symbol.EnumMember.bits symbol.EnumMemberExcludes.bits false sort.EnumMember false [] member_are nothing_else)
+
+    type_parameter_pairs : Paired kind.TSTypeParameter
+    type_parameter_pairs = go (place.parent_holds (is kind.TSInferType) q.path)
+      where
+        inferred : Node → NamedDeclaration
+        inferred = named_declaration sort.Inferred (first_condition cs) (bound_container false cs ∷ [])
+
+        parameter : Node → NamedDeclaration
+        parameter = named_declaration sort.TypeParameter (bound_container false cs) []
+
+        row_by : Bool → BinderRow
+        row_by b = type_parameter_row (cond b (outward_to is_conditional q.chain) (here q.chain))
+
+        go : (b : Bool) → AllPairs (map (declaration_at q.node (row_by b) false) (names_at role.Name q.node)) (map (cond b inferred parameter) (names_at role.Name q.node))
+        go true = map_pairs (declaration_at q.node (row_by true) false) inferred (names_at role.Name q.node) (λ id. unsimple (declaration_at q.node (row_by true) false id) (inferred id) refl refl)
+        go false = map_pairs (declaration_at q.node (row_by false) false) parameter (names_at role.Name q.node) (pair_here symbol.TypeParameter.bits symbol.TypeParameterExcludes.bits false sort.TypeParameter false [] parameter_are nothing_else)
+
+    no_rest_pairs : (b : Bool) (ws : List Declaration) → b ≡ false → AllPairs (cond b ws []) []
+    no_rest_pairs true ws e = absurd (never e)
+    no_rest_pairs false ws e = tt
+
+    not_root : (j : AstType) → q.node.kind ≡ j → (j ≡ kind.Program → ⊥) → (q.path ≡ [] → q.node.kind ≡ kind.Program) → q.path ≡ [] → ⊥
+    not_root j e n h i = n (sym e ∙ h i)
+
+    pub pairs_by : (j : AstType) → q.node.kind ≡ j → same_kind j kind.TSIndexSignatureName ≡ false → is_bare_rest q.node q.path ≡ false → (q.path ≡ [] → q.node.kind ≡ kind.Program) → Paired j
+    pairs_by kind.VariableDeclarator e i r u = variable_pairs q.path refl
+    pairs_by kind.Function e i r u = function_pairs
+    pairs_by kind.Class e i r u = class_pairs
+    pairs_by kind.FormalParameter e i r u = parameter_pairs q.path (not_root kind.FormalParameter e (λ z. absurd cc) u)
+    pairs_by kind.FormalParameterRest e i r u = parameter_pairs q.path (not_root kind.FormalParameterRest e (λ z. absurd cc) u)
+    pairs_by kind.BindingRestElement e i r u = no_rest_pairs (place.parent_holds (is kind.FormalParameters) q.path) _ (rw e at r)
+    pairs_by kind.CatchParameter e i r u = catch_pairs (children_of role.Pattern q.node.children)
+    pairs_by kind.ImportSpecifier e i r u = import_pairs
+    pairs_by kind.ImportDefaultSpecifier e i r u = import_pairs
+    pairs_by kind.ImportNamespaceSpecifier e i r u = import_pairs
+    pairs_by kind.TSImportEqualsDeclaration e i r u =
+        map_pairs (declaration_at q.node (record { flags = symbol.Import.bits; excluded = symbol.ImportBindingExcludes.bits; how = plain; route = here q.chain }) false) (imported_as sort.Import s q.node q.path) (ids q.node) (import_here symbol.Import.bits symbol.ImportBindingExcludes.bits sort.Import import_are)
+    pairs_by kind.TSTypeAliasDeclaration e i r u = here_pairs (union symbol.TypeAlias.bits (marked_ambient q.node)) symbol.TypeAliasExcludes.bits sort.TypeAlias (ids q.node) (alias_are (has mark.Declare q.node))
+    pairs_by kind.TSInterfaceDeclaration e i r u = here_pairs (union symbol.Interface.bits (marked_ambient q.node)) symbol.InterfaceExcludes.bits sort.Interface (ids q.node) (interface_are (has mark.Declare q.node))
+    pairs_by kind.TSEnumDeclaration e i r u = enum_pairs
+    pairs_by kind.TSEnumMember e i r u = member_pairs
+    pairs_by kind.TSNamespaceDeclaration e i r u = namespace_pairs (instance_state q.node q.path (nodes_around q.node q.path))
+    pairs_by kind.TSTypeParameter e i r u = type_parameter_pairs
+    pairs_by kind.TSMappedType e i r u = mapped_pairs
+    pairs_by kind.TSIndexSignatureName e i r u = absurd cc
+    pairs_by _ e i r u = tt

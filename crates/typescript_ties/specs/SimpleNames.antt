@@ -1,0 +1,113 @@
+-- Names of which tables and language are proved to agree, and where.
+use Rattle.std.specs.Prelude.{◌≡◌, ℕ, [], ◌∷◌, Bool, true, false, ◌&&◌, ◌||◌, not}
+use Rattle.semantic_kinds.specs.Classes.{holds_kind}
+use Rattle.semantic_kinds.specs.Kinds.{same_kind}
+use Rattle.semantic_kinds.specs.declared.kind.AstType.{AstType}
+use Rattle.semantic_kinds.specs.declared.kind.AstType.TheVariants as kind
+use Rattle.semantic_kinds.specs.declared.role.Role.{Role}
+use Rattle.semantic_syntax.specs.Sets.{meets}
+use Rattle.semantic_syntax.specs.Usable.{asks_for_namespace}
+use Rattle.semantic_syntax.specs.Tables.{Name}
+use Rattle.semantic_syntax.specs.declared.reference_flags.TheConstants.ReferenceFlags as way
+use Rattle.semantic_tree.specs.Forest.{Forest, nothing, tree}
+use Rattle.semantic_tree.specs.Tree.{Tree}
+use Rattle.semantic_tree.specs.Views.{is}
+use Rattle.semantic_model.specs.Cursor.{way_or_read}
+use Rattle.semantic_model.specs.Entries.{Among}
+use Rattle.semantic_model.specs.Inside.{is_parameter_decorator}
+use Rattle.semantic_model.specs.Place.{Place}
+use Rattle.semantic_model.specs.Step.{entering, steps}
+use Rattle.typescript_ties.specs.AskedMeanings.{asked_by_reference}
+use Rattle.typescript_ties.specs.Containers.{Container, is_container, same_container, containers}
+use Rattle.typescript_ties.specs.MeaningSets.{MeaningSet}
+use Rattle.typescript_ties.specs.NamedDeclarations.{NamedDeclaration, named_in}
+use Rattle.typescript_ties.specs.declared.container_kind.ContainerKind.{ContainerKind}
+use Rattle.typescript_ties.specs.declared.container_kind.ContainerKind.TheVariants as container
+use Rattle.typescript_ties.specs.declared.declaration_sort.DeclarationSort.{DeclarationSort}
+use Rattle.typescript_ties.specs.declared.declaration_sort.DeclarationSort.TheVariants as sort
+
+-- no `with`, and no parameter with a decorator
+abbrev pub is_common_child : AstType → Role → AstType → Bool
+is_common_child k r k2 =
+    not (same_kind k2 kind.WithStatement) && (not (is_parameter_decorator k r) && not (holds_kind (kind.FormalParameter ∷ kind.FormalParameterRest ∷ []) k && same_kind k2 kind.Decorator))
+
+abbrev pub is_common_forest : AstType → Forest → Bool
+is_common_forest k nothing = true
+is_common_forest k (tree r k2 span text marks below id after) = is_common_child k r k2 && (is_common_forest k2 below && is_common_forest k after)
+
+abbrev pub is_common : Tree → Bool
+is_common p = is_common_forest p.root.kind p.root.children
+
+-- lexical, a type or class, an enum or its member, a namespace, an import, a type parameter, or a function that stays where it stands
+abbrev pub is_simple_sort : DeclarationSort → Bool
+is_simple_sort sort.Lexical = true
+is_simple_sort sort.Function = true
+is_simple_sort sort.Class = true
+is_simple_sort sort.Import = true
+is_simple_sort sort.TypeAlias = true
+is_simple_sort sort.Interface = true
+is_simple_sort sort.Enum = true
+is_simple_sort sort.EnumMember = true
+is_simple_sort sort.TypeParameter = true
+is_simple_sort sort.TypeNamespace = true
+is_simple_sort sort.ValueNamespace = true
+is_simple_sort _ = false
+
+-- what has no names but by `infer`, index signatures, parameters, catch clauses and the own names of expressions, and what is global beside the file
+abbrev pub is_apart : ContainerKind → Bool
+is_apart container.Globals = true
+is_apart container.Inferred = true
+is_apart container.Condition = true
+is_apart container.Infer = true
+is_apart container.IndexSignature = true
+is_apart container.Parameters = true
+is_apart container.OwnName = true
+is_apart container.CatchClause = true
+is_apart _ = false
+
+abbrev pub is_simple : NamedDeclaration → Bool
+is_simple d = is_simple_sort d.sort && not (is_apart d.container.kind)
+
+-- the name is declared only so
+abbrev pub IsSimplyDeclared : Tree → Name → Type 0
+IsSimplyDeclared p x = (d : NamedDeclaration) → Among d (named_in p) → d.name ≡ x → is_simple d ≡ true
+
+-- where it is a member, no other block shares the members; of a name that is not tangled this follows, but for enums
+abbrev pub HasOwnMembers : Tree → Name → Type 0
+HasOwnMembers p x =
+    (d : NamedDeclaration) → Among d (named_in p) → d.name ≡ x → (q : Place) → Among (entering q) (steps p) → (c : Container) → Among c (containers p.source_type q.node q.path)
+    → same_container d.container c ≡ true → d.container.node ≡ c.node
+
+-- the ways in which a reference asks for a value, for a type, for a namespace, and for any of them
+abbrev pub is_way_by : (value is_type namespace : Bool) → ℕ → Bool
+is_way_by true false false w = (meets w way.Value.bits || meets w way.ValueAsType.bits) && (not (meets w way.TypeFlag.bits) && not (asks_for_namespace w))
+is_way_by false true false w = (meets w way.TypeFlag.bits && not (meets w way.Value.bits)) && (not (meets w way.ValueAsType.bits) && not (asks_for_namespace w))
+is_way_by false false true w = meets w way.TypeFlag.bits && asks_for_namespace w
+is_way_by true true true w = (meets w way.Value.bits && meets w way.TypeFlag.bits) && not (asks_for_namespace w)
+is_way_by v t n w = false
+
+-- the way of a reference is one of those for what is asked
+abbrev pub is_way_of : MeaningSet → ℕ → Bool
+is_way_of asked w = is_way_by asked.value asked.is_type asked.namespace w
+
+-- each reference of the name has such a way: not what is exported as a type, nor where a way is left over from a node before
+abbrev pub AsksItsWays : Tree → Name → Type 0
+AsksItsWays p x =
+    (q : Place) → Among (entering q) (steps p) → is kind.IdentifierReference q.node ≡ true → q.node.text ≡ x → is_way_of (asked_by_reference q.path) (way_or_read q.cursor) ≡ true
+
+-- and so it is of enums
+abbrev pub HasOwnEnums : Tree → Name → Type 0
+HasOwnEnums p x =
+    (d : NamedDeclaration) → Among d (named_in p) → d.name ≡ x → d.container.kind ≡ container.EnumMembers → (q : Place) → Among (entering q) (steps p) → (c : Container) → Among c (containers p.source_type q.node q.path)
+    → same_container d.container c ≡ true → d.container.node ≡ c.node
+
+-- where type parameters are declared, the name is one
+abbrev pub StandsWithTypes : Tree → Name → Type 0
+StandsWithTypes p x = (d : NamedDeclaration) → Among d (named_in p) → d.name ≡ x → is_container container.TypeParameters d.container ≡ true → d.sort ≡ sort.TypeParameter
+
+-- all of that
+pub record IsSimpleName (p : Tree) (x : Name) : Type 0 where
+  pub simply : IsSimplyDeclared p x
+  pub enums : HasOwnEnums p x
+  pub types : StandsWithTypes p x
+  pub ways : AsksItsWays p x
