@@ -1,10 +1,12 @@
 'use strict';
 // Where it shows that the tables of a name may part from the language, for each reason that the proved program has for that, by one pass
 // over the rows and one over the tables; and by these places alone which names are tangled, for a page, which runs no program.
-// `__proto__` comes besides: of it no tie parts, but a property of that name is none where it is written out.
+// Two kinds come besides, which the program doesn't list: the names of typescript-corners.js, and `__proto__`, of which no tie parts, but a
+// property of that name is none where it is written out.
 
 const { DEPTH, END, KIND, ROLE, START, TEXT, endsOf, parentsOf } = require('../edits/rows.js');
 const { eachDeclaration } = require('./declarations.js');
+const { CORNERS, isTypeScript, tangledInCorners } = require('./typescript-corners.js');
 
 // Why names are tangled, by the word that the program has for it, with the section of ECMAScript.
 const REASONS = {
@@ -17,7 +19,12 @@ const REASONS = {
   MergedMember: 'it is declared in one of several namespaces or enums that are merged',
   NamespaceNamesake: 'a namespace and another declaration share the name, and TypeScript may mean either in a qualified name',
 };
-const PROTO = 'in an object, `__proto__` sets the prototype or not by how it is written (ECMAScript 13.2.5.5)';
+
+// Why others are kept like these, though the program doesn't list them.
+const UNLISTED = {
+  ...CORNERS,
+  Proto: 'in an object, `__proto__` sets the prototype or not by how it is written (ECMAScript 13.2.5.5)',
+};
 
 const spanOf = (row) => ({ start: row[START], end: row[END] });
 
@@ -71,7 +78,7 @@ function tangledByRows({ rows, parents, report, inWith }, note) {
       note(name, 'With', spanOf(rows[node]));
     }
     if (name === 'arguments' || name === '__proto__') {
-      note(name, name === 'arguments' ? 'Arguments' : PROTO, spanOf(rows[node]));
+      note(name, name === 'arguments' ? 'Arguments' : 'Proto', spanOf(rows[node]));
     }
   };
   eachDeclaration({ rows, parents, report, enter: (row) => catches.enter(row), visit });
@@ -195,30 +202,40 @@ class Places {
   spanOf(name, reason) {
     return this.found.get(name)?.get(reason);
   }
+
+  // Each name with its first reason among some.
+  firstOf(reasons) {
+    const found = new Map();
+    for (const [name, spans] of this.found) {
+      const reason = [...spans.keys()].find((one) => reasons[one] !== undefined);
+      if (reason !== undefined) {
+        found.set(name, { reason: reasons[reason], span: spans.get(reason) });
+      }
+    }
+    return found;
+  }
 }
 
-function placesIn({ rows, lang }, report) {
+function placesIn(tree, report) {
+  const { rows } = tree;
   const places = new Places();
   const note = places.note.bind(places);
   const parents = parentsOf(rows);
   const known = { rows, parents, ends: endsOf(rows), report, inWith: scopesInWith(report.scopes) };
   tangledByRows(known, note);
   tangledByTables(known, note);
-  if (lang !== 'js' && lang !== 'jsx') {
+  if (isTypeScript(tree)) {
     looseNames(known, note);
     mergedNames(known, note);
     namesakes(known, note);
+    tangledInCorners(known, note);
   }
   return places;
 }
 
 // The tangled names as far as places tell them, each with its first reason in words and the span that shows it.
 function tangledByPlaces({ tree, report }) {
-  const names = [...placesIn(tree, report).found];
-  return new Map(names.map(([name, spans]) => {
-    const [[reason, span]] = spans;
-    return [name, { reason: REASONS[reason] || reason, span }];
-  }));
+  return placesIn(tree, report).firstOf({ ...REASONS, ...UNLISTED });
 }
 
-module.exports = { PROTO, REASONS, placesIn, tangledByPlaces };
+module.exports = { REASONS, UNLISTED, placesIn, tangledByPlaces };

@@ -4,7 +4,8 @@
 
 const { RunFault } = require('../bolgwyr/faults.js');
 const { runTool } = require('../programs/index.js');
-const { PROTO, REASONS, placesIn } = require('./tangled-places.js');
+const { REASONS, UNLISTED, placesIn } = require('./tangled-places.js');
+const { isTypeScript } = require('./typescript-corners.js');
 
 const LINE = /^tangled (\d+) ("(?:[^"\\]|\\.)*") (\S+)/;
 
@@ -25,7 +26,7 @@ function toldOf(json) {
 function tangledNames({ tree, report, json }) {
   const found = new Map();
   const told = toldOf(json);
-  const isClear = told.length === 0 && report.symbols.every(({ name }) => name !== '__proto__');
+  const isClear = told.length === 0 && !isTypeScript(tree) && report.symbols.every(({ name }) => name !== '__proto__');
   if (isClear) {
     return found;
   }
@@ -33,9 +34,10 @@ function tangledNames({ tree, report, json }) {
   for (const { symbol, name, reason } of told) {
     found.set(name, { reason: REASONS[reason], span: places.spanOf(name, reason) || report.symbols[symbol].span });
   }
-  const proto = places.spanOf('__proto__', PROTO);
-  if (proto !== undefined && !found.has('__proto__')) {
-    found.set('__proto__', { reason: PROTO, span: proto });
+  for (const [name, unlisted] of places.firstOf(UNLISTED)) {
+    if (!found.has(name)) {
+      found.set(name, unlisted);
+    }
   }
   return found;
 }

@@ -32,13 +32,25 @@ const REFUSED = [
     text: 'function f(a) {\n  try { a(); } catch (error) { var error = 1; }\n}',
     wanted: "1 2:36 `error` can't be followed: a `var` stands in a catch clause that catches its name (ECMAScript B.3.4)",
   },
+  {
+    name: 'a parameter in type parameters',
+    file: 'a.mts',
+    text: 'const longer = 1;\nfunction f<T extends typeof longer>(longer: T) {}',
+    wanted: "1 2:29 `longer` can't be followed: TypeScript sees no parameter in the type parameters of its function",
+  },
+  {
+    name: 'a short name that an index signature has',
+    file: 'a.mts',
+    text: 'export function f(longer: 1) { interface I { [e: string]: typeof longer } }',
+    wanted: "1 1:66 `e` couldn't be followed: TypeScript means the parameter of the index signature around this use",
+  },
   { name: 'no tree', text: 'let a = ;', wanted: '3 undefined:undefined a.js:1:9: Unexpected token' },
   { name: 'half of a character', text: 'let a = "\ud800";', wanted: "3 undefined:undefined a.js: half of a character can't be written as UTF-8" },
 ];
 
-function thrown(text) {
+function thrown(text, file) {
   try {
-    mangle(text, { file: 'a.js' });
+    mangle(text, { file });
   } catch (error) {
     return `${error.status} ${error.line}:${error.column} ${error.message}`;
   }
@@ -61,7 +73,7 @@ function calls(expect) {
   for (const { name, text, file = 'a.js', toplevel = false, wanted } of TEXTS) {
     expect(name, wanted ?? text, mangle(text, { file, toplevel }).text);
   }
-  REFUSED.forEach(({ name, text, wanted }) => expect(name, wanted, thrown(text)));
+  REFUSED.forEach(({ name, text, file = 'a.js', wanted }) => expect(name, wanted, thrown(text, file)));
   mapped(expect);
 }
 
