@@ -8,12 +8,15 @@ use Rattle.semantic_syntax.specs.Members.{contains}
 use Rattle.semantic_tree.specs.Forest.{Forest, nothing, tree}
 use Rattle.semantic_tree.specs.Tree.{Tree, IsNumbered}
 use Rattle.semantic_tree.specs.declared.node.Node.{Node}
+use Rattle.semantic_model.specs.Binder.{is_var, is_conditional, declared_by}
 use Rattle.semantic_model.specs.Cursor.{on_entering}
+use Rattle.semantic_model.specs.Declaration.{passed_before, first_with, route_from, outward_past}
 use Rattle.semantic_model.specs.EachStep.{EachStep}
 use Rattle.semantic_model.specs.Inside.{is_inside, is_in_header, is_parameter_decorator}
 use Rattle.semantic_model.specs.Place.{Place, OpenScope, innermost, outside}
 use Rattle.semantic_model.specs.ScopeKind.{opened_scope}
 use Rattle.semantic_model.specs.Step.{Step, entering, opening, header_ending, closing, leaving, steps_below, steps, root_place, opening_at, scope_at, child_place, child_scopes}
+use Rattle.semantic_model.proofs.fold.EachDeclared.{EachDeclared, each_on_entering}
 use Rattle.semantic_model.proofs.steps.EachStep.{each_of_node, each_of_turn}
 use Rattle.semantic_model.proofs.steps.OpenedFrom.{OpenedFrom, OpenedRound, opened_left, opened_round}
 use Rattle.semantic_model.proofs.steps.Turn.{Turn, turn_at}
@@ -89,9 +92,47 @@ module _ (table : List ℕ) where
         others = opened_steps p turn.scope turn.rest turn.past after a o_scope round.others;
       })
 
+  -- ---- routes
+
+  module _ (root : slice_get table 0 ≡ Some 0) where
+    -- the innermost scope of a place
+    pub innermost_opened : (chain : List OpenScope) → AllOpened chain → IsOpened (innermost chain)
+    innermost_opened [] h = root
+    innermost_opened (s ∷ ss) h = h.0
+
+    abbrev FirstOpened : Option OpenScope → Type 0
+    FirstOpened None = Unit {0}
+    FirstOpened (Some s) = IsOpened s
+
+    first_opened : (test : OpenScope → Bool) (chain : List OpenScope) → AllOpened chain → FirstOpened (first_with test chain)
+    first_opened test [] h = tt
+    first_opened test (s ∷ ss) h = go (test s) (first_opened test ss h.1)
+      where
+        go : (b : Bool) → FirstOpened (first_with test ss) → FirstOpened (cond b (Some s) (first_with test ss))
+        go true k = h.0
+        go false k = k
+
+    from_opened : (chain passed : List OpenScope) (o : Option OpenScope) → AllOpened chain → FirstOpened o → IsOpened (route_from chain passed o).target
+    from_opened chain passed None h k = innermost_opened chain h
+    from_opened chain passed (Some s) h k = k
+
+    past_opened : (chain : List OpenScope) → AllOpened chain → IsOpened (outward_past is_var chain).target
+    past_opened [] h = root
+    past_opened (s ∷ ss) h = from_opened (s ∷ ss) (s ∷ passed_before is_var ss) (first_with is_var ss) h (first_opened is_var ss h.1)
+
+    -- the target of what a node declares
+    pub targets_opened : (p : Place) → AllOpened p.chain → EachDeclared (λ d. IsOpened d.route.target) (declared_by p.node.kind p)
+    targets_opened p h = each_on_entering (λ d. IsOpened d.route.target) (λ how r. IsOpened r.target) (λ node row is_pure name r. r) p.node.kind p (record {
+      at_home = innermost_opened p.chain h;
+      when_caught = innermost_opened p.chain h;
+      when_hoisted = λ e. from_opened p.chain (passed_before is_var p.chain) (first_with is_var p.chain) h (first_opened is_var p.chain h);
+      when_moved = λ e s q. past_opened p.chain h;
+      when_inferred = from_opened p.chain (passed_before is_conditional p.chain) (first_with is_conditional p.chain) h (first_opened is_conditional p.chain h);
+    })
+
 -- ---- the program
 
-opened_at : (table : List ℕ) (n : ℕ) (ss : List Step) → ((i : ℕ) → slice_get table (n + i) ≡ slice_get (openers ss) i) → OpenedFrom (λ m p s. slice_get table m ≡ Some s.opener) n ss
+pub opened_at : (table : List ℕ) (n : ℕ) (ss : List Step) → ((i : ℕ) → slice_get table (n + i) ≡ slice_get (openers ss) i) → OpenedFrom (λ m p s. slice_get table m ≡ Some s.opener) n ss
 opened_at table n [] h = tt
 opened_at table n (opening p s ∷ more) h =
     (subst (λ m. slice_get table m ≡ Some s.opener) (omega arith) (h 0), opened_at table (suc n) more (λ i. subst (λ m. slice_get table m ≡ slice_get (openers more) i) (omega arith) (h (suc i))))
@@ -117,18 +158,13 @@ root_opens p cursor (tree r k span text marks below id after) more e = rw e refl
 pub root_opener : (p : Tree) → p.root.kind ≡ kind.Program → IsNumbered p.root → slice_get (openers (steps p)) 0 ≡ Some 0
 root_opener p k e = root_opens (root_place p) (on_entering p.root.kind 0) p.root.children (leaving (root_place p) ∷ []) k ∙ ap Some (root_numbered p e).0
 
--- the innermost scope of a place
-pub innermost_opened : (p : Tree) → p.root.kind ≡ kind.Program → IsNumbered p.root → (chain : List OpenScope) → AllOpened (openers (steps p)) chain → IsOpened (openers (steps p)) (innermost chain)
-innermost_opened p k e [] h = root_opener p k e
-innermost_opened p k e (s ∷ ss) h = h.0
-
 -- entries of a list without repetition
 contains_at : (xs : List ℕ) (n o : ℕ) → slice_get xs n ≡ Some o → contains xs o ≡ true
 contains_at [] n o h = absurd cc
 contains_at (x ∷ xs) zero o h = let q : x ≡ o = cc in elim (eqb_tells x o) [ inl e ↦ rw e.0 refl | inr e ↦ absurd (e.1 q) ]
 contains_at (x ∷ xs) (suc n) o h = elim (eqb_tells x o) [ inl e ↦ rw e.0 refl | inr e ↦ rw e.0 (contains_at xs n o h) ]
 
-one_place : (xs : List ℕ) (n m o : ℕ) → AreDistinct xs → slice_get xs n ≡ Some o → slice_get xs m ≡ Some o → n ≡ m
+pub one_place : (xs : List ℕ) (n m o : ℕ) → AreDistinct xs → slice_get xs n ≡ Some o → slice_get xs m ≡ Some o → n ≡ m
 one_place [] n m o d h k = absurd cc
 one_place (x ∷ xs) zero zero o d h k = refl
 one_place (x ∷ xs) zero (suc m) o d h k =
