@@ -147,6 +147,10 @@ turns_behind : (k : AstType) (r : Role) (before behind : ℕ) → cond (turns_cu
 turns_behind kind.Class r before behind = refl
 turns_behind _ r before behind = refl
 
+turns_between : (k : AstType) → cond (acts_between k) false (turns_cursor k) ≡ false
+turns_between kind.Class = refl
+turns_between _ = refl
+
 enters_moving : (k : AstType) (cursor : ℕ) → cond (moves_cursor k) cursor (on_entering k cursor) ≡ cursor
 enters_moving kind.Class cursor = refl
 enters_moving _ cursor = refl
@@ -161,6 +165,10 @@ still_before parent ambient r child cursor still unbound =
     ap (λ b. cond (b && is_simple_target child.kind && not (meets (at_child k parent ambient r child cursor) way.Write.bits)) way.Write.bits (at_child k parent ambient r child cursor))
     (otherwise (turns_cursor k) (same_role r role.Binding) (is_write_place k r) (same_role r role.Binding) (writes k r) still ∙ unbound)
     ∙ otherwise (turns_cursor k) cursor (at_child k parent ambient r child cursor) cursor (turns_before k parent ambient r child cursor) still
+
+-- nor does it where nothing happens between children
+pub still_even : (k : AstType) → acts_between k ≡ false → turns_cursor k ≡ false
+still_even k even = otherwise (acts_between k) false (turns_cursor k) false (turns_between k) even
 
 pub still_behind : (k : AstType) (r : Role) (before behind : ℕ) → turns_cursor k ≡ false → cursor_behind k r before behind ≡ behind
 still_behind k r before behind still = otherwise (turns_cursor k) behind (cursor_behind k r before behind) behind (turns_behind k r before behind) still

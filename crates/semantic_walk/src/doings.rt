@@ -2,7 +2,7 @@
 
 ghost use Rattle.std.specs.Prelude.{◌≡◌};
 ghost use Rattle.node_rules.specs.EvenKinds.{acts_on_entering, acts_between, is_passing};
-ghost use Rattle.semantic_model.specs.Cursor.{cursor_before, cursor_behind, on_entering, on_leaving};
+ghost use Rattle.semantic_model.specs.Cursor.{cursor_before, cursor_behind};
 ghost use Rattle.semantic_model.specs.Inside.{opens, is_inside, any_inside, is_in_header};
 ghost use Rattle.semantic_tree.specs.Children.{forest_of};
 ghost use Rattle.walk_notes.specs.NoteLists.{is_noted_behind};
@@ -239,7 +239,7 @@ impl Doings {
 
     /// Whether the cursor may move on entering the node and on leaving it.
     #[inline(always)]
-    fn moves_cursor(self) -> bool
+    pub fn moves_cursor(self) -> bool
         ensures { result ≡ moves_cursor self }
     {
         self.bits & MOVES != 0
@@ -311,30 +311,6 @@ impl Doings {
             cursor::behind_child(self.kind, role, before, after)
         } else {
             after
-        }
-    }
-
-    /// The cursor on entering the node.
-    #[inline(always)]
-    pub fn on_entering(self, cursor: ReferenceFlags) -> ReferenceFlags
-        ensures { result.bits ≡ on_entering self cursor.bits }
-    {
-        if self.moves_cursor() {
-            cursor::on_entering(self.kind, cursor)
-        } else {
-            cursor
-        }
-    }
-
-    /// The cursor on leaving the node.
-    #[inline(always)]
-    pub fn on_leaving(self, cursor: ReferenceFlags) -> ReferenceFlags
-        ensures { result.bits ≡ on_leaving self cursor.bits }
-    {
-        if self.moves_cursor() {
-            cursor::on_leaving(self.kind, cursor)
-        } else {
-            cursor
         }
     }
 }

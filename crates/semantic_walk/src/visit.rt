@@ -35,6 +35,7 @@ use crate::doings::Doings;
 use crate::walk::Walk;
 use check_context::Rules;
 use node_rules::ambient::{is_ambient_in_child, is_ambient_inside};
+use node_rules::cursor::before_child;
 use node_rules::even::is_leaf;
 use node_rules::inside::{is_in_header, is_parameter_decorator};
 use semantic_syntax::{ReferenceFlags, ScopeId, Steps};
@@ -110,6 +111,7 @@ impl<'a> Walk<'a> {
     }
 
     /// Opens the node's scope, where its header starts.
+    #[inline(never)]
     fn open_own(
         &mut self,
         parent: AstKind<'a>,
@@ -336,6 +338,7 @@ impl<'a> Walk<'a> {
     }
 
     /// Opens the node's scope, and closes it at once.
+    #[inline(never)]
     fn open_empty(&mut self, kind: AstKind<'a>, role: Role, turn: &Turn) -> Result<(), AllocError>
         requires turn { IsTurn self.old.made turn.now }
         requires ids { MayOpen self.old kind.node.now }
@@ -474,21 +477,23 @@ impl<'a> Walk<'a> {
 
     /// Comes to a child that stands in the scope of its parent, and is ambient as it is: the cursor is the child's.
     #[inline(always)]
-    fn turn_to(&mut self, parent: AstKind<'a>, doings: Doings, role: Role, child: AstKind<'a>)
-        requires { doings ≡ parent.node.now.kind }
+    fn turn_to(&mut self, parent: AstKind<'a>, role: Role, child: AstKind<'a>)
+        requires { acts_between parent.node.now.kind ≡ false }
         ensures made { self.new ≡ record self.old {
           cursor = cursor_before parent.entry.node.now self.old.is_ambient role
               child.entry.node.now self.old.cursor;
         } }
         ensures goes { Goes self.old.made self.new.made }
     {
-        self.current_reference_flags = doings.before_child(
-            parent,
-            self.is_ambient,
-            role,
-            child,
-            self.current_reference_flags,
-        );
+        if role == Role::Binding {
+            self.current_reference_flags = before_child(
+                parent,
+                self.is_ambient,
+                role,
+                child,
+                self.current_reference_flags,
+            );
+        }
     }
 
     /// Walks over the children of a node that is entered, where nothing happens between them: each stands in its parent's
@@ -500,12 +505,10 @@ impl<'a> Walk<'a> {
         &mut self,
         kind: AstKind<'a>,
         role: Role,
-        doings: Doings,
         rules: &R,
         steps: &mut Steps<L>,
     ) -> Result<(), AllocError>
         requires inside { IsInside self.old kind.node.now role }
-        requires kind { doings ≡ kind.node.now.kind }
         requires even { acts_between kind.node.now.kind ≡ false }
         requires unmarked { has declare_mark kind.node.now ≡ false }
         ensures walks { (ds : List Declaration) (first : Walker) (p : Place) (own : Option OpenScope)
@@ -529,7 +532,7 @@ impl<'a> Walk<'a> {
         let mut left = kind.node().children.as_slice();
         while let Some(((child_role, child), rest)) = left.split_first() {
             let child = AstKind::new(child);
-            self.turn_to(kind, doings, *child_role, child);
+            self.turn_to(kind, *child_role, child);
             self.walk_child(child, *child_role, rules, steps)?;
             left = rest;
         }
@@ -615,7 +618,7 @@ impl<'a> Walk<'a> {
         if doings.acts_between() || kind.has_mark(Mark::Declare) {
             self.walk_acting(kind, role, doings, rules, steps)
         } else {
-            self.walk_even(kind, role, doings, rules, steps)
+            self.walk_even(kind, role, rules, steps)
         }
     }
 

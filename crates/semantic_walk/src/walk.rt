@@ -202,7 +202,18 @@ impl<'a> Walk<'a> {
         }
     }
 
+    /// Notes what is left of a class or a label. This stands apart, as few nodes are that.
+    #[inline(never)]
+    fn leave_noted(&mut self, kind: AstKind<'a>) -> Result<(), AllocError>
+        ensures made { OnOk result (self.new
+            ≡ record self.old { notes = leaving_notes kind.entry.node.now self.old.notes }) }
+        ensures goes { OnOk result (Goes self.old.made self.new.made) }
+    {
+        self.notes.leave(kind)
+    }
+
     /// Notes what is left of classes and labels.
+    #[inline(always)]
     fn note_behind(&mut self, kind: AstKind<'a>, doings: Doings) -> Result<(), AllocError>
         requires { doings ≡ kind.node.now.kind }
         ensures made { OnOk result (self.new
@@ -210,9 +221,37 @@ impl<'a> Walk<'a> {
         ensures goes { OnOk result (Goes self.old.made self.new.made) }
     {
         if doings.is_noted_behind() {
-            self.notes.leave(kind)
+            self.leave_noted(kind)
         } else {
             Ok(())
+        }
+    }
+
+    /// The cursor is that on entering a node of the kind.
+    #[inline(always)]
+    fn turn_on_entering(&mut self, doings: Doings)
+        ensures made { self.new ≡ record self.old { cursor = on_entering doings self.old.cursor } }
+        ensures goes { Goes self.old.made self.new.made }
+    {
+        if doings.moves_cursor() {
+            self.current_reference_flags = cursor::on_entering(
+                doings.kind(),
+                self.current_reference_flags,
+            );
+        }
+    }
+
+    /// The cursor is that on leaving a node of the kind.
+    #[inline(always)]
+    fn turn_on_leaving(&mut self, doings: Doings)
+        ensures made { self.new ≡ record self.old { cursor = on_leaving doings self.old.cursor } }
+        ensures goes { Goes self.old.made self.new.made }
+    {
+        if doings.moves_cursor() {
+            self.current_reference_flags = cursor::on_leaving(
+                doings.kind(),
+                self.current_reference_flags,
+            );
         }
     }
 
@@ -225,7 +264,7 @@ impl<'a> Walk<'a> {
         ensures goes { OnOk result (Goes self.old.made self.new.made) }
     {
         self.path.push(kind, self.current_scope)?;
-        self.current_reference_flags = doings.on_entering(self.current_reference_flags);
+        self.turn_on_entering(doings);
         Ok(())
     }
 
@@ -419,7 +458,7 @@ impl<'a> Walk<'a> {
         ensures goes { OnOk result (Goes self.old.made self.new.made) }
     {
         self.note_behind(kind, doings)?;
-        self.current_reference_flags = doings.on_leaving(self.current_reference_flags);
+        self.turn_on_leaving(doings);
         self.path.pop();
         Ok(())
     }
@@ -501,6 +540,7 @@ impl<'a> Walk<'a> {
     }
 
     /// At the end of a header the references that wait since its start are looked up as far as its scope.
+    #[inline(never)]
     pub(crate) fn end_header<L>(
         &mut self,
         scope: ScopeId,

@@ -35,6 +35,7 @@ use Rattle.semantic_walk.proofs.TurnEnds.{on_ok}
 use Rattle.semantic_walk.proofs.Counting.{on_success}
 use Rattle.semantic_walk.proofs.RootCount.{root_over_asks, root_counts, root_given_up, end_given_up}
 use Rattle.semantic_walk.proofs.analysis.run.Given as given
+use Rattle.semantic_walk.proofs.analysis.run.Goals.{In_ok-enter}
 use Rattle.semantic_walk.proofs.analysis.run.Goals as goal
 
 through : (a b d : ℕ) → a ≤ b → b ≤ d → a ≤ d
@@ -70,7 +71,7 @@ pub enter-requires-clause-kind : goal.enter-requires-clause-kind
 enter-requires-clause-kind g c = c.of-doings.ensures ∙ c.ty.ensures
 
 -- the root is a node of the program
-module _ (g : given.Over) (c : goal.In_ok-enter g) where
+module _ (g : given.Over) (c : In_ok-enter g) where
   begun_at : Start c.args.settings c.reserve.new.self c.args.program.now
   begun_at = starts c.args.settings c.args.walk.now c.reserve.new.self c.args.program.now c.root-root.ensures.shaped c.root-root.ensures.numbered c.requires c.reserve.ensures
 

@@ -313,7 +313,7 @@ walk_even-loop-child_role-preserved g t c =
     }
 
 pub walk_even-turn_to-requires : goal.walk_even-turn_to-requires
-walk_even-turn_to-requires g t c = c.requires.kind
+walk_even-turn_to-requires g t c = c.requires.even
 
 pub walk_even-walk_child-requires : goal.walk_even-walk_child-requires
 walk_even-walk_child-requires g t c =
