@@ -1,5 +1,5 @@
 -- A walk that comes to a child of a node, and goes over it.
-use Rattle.std.proofs.Common.{◌≡◌, ◌<◌, ◌≤◌, ℕ, List, [], ◌∷◌, Option, None, sym, ap, ◌∙◌, length, refl, arith}
+use Rattle.std.proofs.Common.{◌≡◌, ◌<◌, ◌≤◌, ℕ, List, [], ◌∷◌, Option, None, ap, ◌∙◌, length, refl, arith}
 use Rattle.semantic_kinds.specs.declared.role.Role.{Role}
 use Rattle.semantic_syntax.specs.Counts.{raised}
 use Rattle.semantic_tree.specs.Forest.{nothing}
@@ -11,7 +11,7 @@ use Rattle.semantic_model.specs.Step.{scope_at, next_at, opening_at}
 use Rattle.walk_model.specs.Waits.{HoldsAt, start_at}
 use Rattle.walk_model.specs.Walks.{after_all}
 use Rattle.semantic_walk.specs.Walker.{Walker}
-use Rattle.semantic_walk.specs.AtPlace.{IsTurnAt, IsComing, IsSomewhere, IsEntered, IsInside, walked_within, left_at, walked_over, probes_over}
+use Rattle.semantic_walk.specs.AtPlace.{IsTurnAt, IsComing, IsSomewhere, IsEntered, HasEntered, walked_within, left_at, walked_over, probes_over}
 use Rattle.semantic_walk.specs.declared.visit.Turn.{Turn}
 use Rattle.semantic_walk.proofs.Counting.{rests_child}
 use Rattle.semantic_walk.proofs.Visiting.{Rests, left_is, at_child, place_of, holds_past}
@@ -31,7 +31,7 @@ abbrev pub somewhere : {w : Walker} {x : Node} {role : Role} (ds : List Declarat
 somewhere ds p own n node role coming = record { ds = ds; place = p; own = own; next = n; node_is = node; role_is = role; coming = coming }
 
 -- and has entered it
-abbrev pub within : {w : Walker} {x : Node} {role : Role} (ds : List Declaration) (first : Walker) (p : Place) (own : Option OpenScope) (n : ℕ) → p.node ≡ x → p.role ≡ role → IsEntered ds first w p own n → IsInside w x role
+abbrev pub within : {w : Walker} {x : Node} {role : Role} (ds : List Declaration) (first : Walker) (p : Place) (own : Option OpenScope) (n : ℕ) → p.node ≡ x → p.role ≡ role → IsEntered ds first w p own n → HasEntered w x role
 within ds first p own n node role inside = record { ds = ds; first = first; place = p; own = own; next = n; node_is = node; role_is = role; inside = inside }
 
 -- once a node below the root is left, it is walked over

@@ -1,8 +1,10 @@
 -- The bits of a kind answer the questions to it.
-use Rattle.std.proofs.Common.{◌≡◌, ℕ, ◌==◌, ◌&&◌, ◌||◌, List, [], ◌∷◌, Bool, true, false, not, cond, length, refl, sym, ap, ◌∙◌}
+use Rattle.std.proofs.Common.{◌≡◌, ℕ, ◌==◌, ◌&&◌, List, [], ◌∷◌, Bool, true, false, not, cond, Some, map, option_map, slice_get, slice_index_or, length, refl, sym, ap, ◌∙◌}
 use Rattle.std.proofs.Math.Dec.{eqb-suc-zero}
+use Rattle.std.proofs.lemmas.Option.{slice_get-map, get_or_from_slice_get}
 use Rattle.std.specs.Int.RustNames.{bit_and}
 use Rattle.semantic_kinds.specs.Classes.{is_simple_target}
+use Rattle.semantic_kinds.specs.Kinds.{all_kinds}
 use Rattle.semantic_kinds.specs.Roles.{same_role}
 use Rattle.semantic_kinds.specs.declared.kind.AstType.{AstType}
 use Rattle.semantic_kinds.specs.declared.kind.AstType.TheVariants as kind
@@ -16,8 +18,8 @@ use Rattle.semantic_tree.specs.declared.node.Node.{Node}
 use Rattle.semantic_tree.specs.Views.{is_role_of}
 use Rattle.semantic_model.specs.Inside.{Inside, no_scope_opens, all_children, only, all_but, opens_for, holds_for, inside, opens, is_inside, any_inside, header_roles, is_in_header}
 use Rattle.semantic_model.specs.Cursor.{at_child, cursor_before, cursor_behind, is_write_place, on_entering, on_leaving}
-use Rattle.node_rules.specs.EvenKinds.{acts_on_entering, acts_between, is_passing, is_leaf}
 use Rattle.walk_notes.specs.NoteLists.{is_noted_behind}
+use Rattle.node_rules.specs.EvenKinds.{acts_on_entering, acts_between, is_passing, is_leaf}
 use Rattle.semantic_walk.specs.Doings.{turns_cursor, moves_cursor, holds_every, are_some, holds_all, has_header, bits_of}
 
 -- whether the bit is one of those of the kind
@@ -61,6 +63,11 @@ all_at _ = refl
 moves_at : (k : AstType) → has k 256 ≡ moves_cursor k
 moves_at kind.Program = refl
 moves_at _ = refl
+
+-- a table of the bits of all kinds has those of each kind in its place
+pub bits_at : (table : List ℕ) (n d : ℕ) (k : AstType) → slice_get all_kinds n ≡ Some k → table ≡ map bits_of all_kinds → slice_index_or table n d ≡ bits_of k
+bits_at table n d k place same =
+    ap (λ bits. slice_index_or bits n d) same ∙ get_or_from_slice_get (map bits_of all_kinds) n (bits_of k) d (slice_get-map bits_of all_kinds n ∙ ap (option_map bits_of) place)
 
 module _ (k j : AstType) (bits : ℕ) (of : bits ≡ bits_of k) (same : k ≡ j) where
   -- what holds of the bits of a kind holds of bits that are its

@@ -24,8 +24,8 @@ use Rattle.walk_model.specs.WalkState.{WalkState}
 use Rattle.walk_model.specs.Waits.{start_at}
 use Rattle.walk_model.specs.Walks.{after_all}
 use Rattle.walk_notes.specs.NoteLists.{is_noted, is_noted_behind}
-use Rattle.semantic_walk.specs.AtPlace.{IsTurnAt, IsBetweenAt}
 use Rattle.node_rules.specs.EvenKinds.{acts_on_entering, acts_between, is_quiet, is_passing}
+use Rattle.semantic_walk.specs.AtPlace.{IsTurnAt, IsBetweenAt}
 use Rattle.semantic_walk.specs.Walker.{Walker}
 use Rattle.semantic_walk.specs.declared.visit.Turn.{Turn}
 
@@ -198,12 +198,12 @@ module _ (p : Place) (even : acts_between p.node.kind ≡ false) where
         let here : w.current ≡ scope_of_place (child_place p (scope_at p r own n) cursor r child) =
         h.within.current ∙ sym (ap (λ (chain : List OpenScope). (innermost chain).number) (same_chain (scope_at p r own n))) in (
           e
-          ∙ (λ i. record w {
-            made = after_all ds w.made (sym (none_opens own) i);
-            current = here i;
-            cursor = same_cursor w h.flags h.is_ambient i;
-            is_ambient = (h.is_ambient ∙ sym same_ambient) i;
-          }),
+              ∙ (λ i. record w {
+                made = after_all ds w.made (sym (none_opens own) i);
+                current = here i;
+                cursor = same_cursor w h.flags h.is_ambient i;
+                is_ambient = (h.is_ambient ∙ sym same_ambient) i;
+              }),
           record {
             outer = h.stands.outer;
             is_ambient = h.stands.is_ambient;

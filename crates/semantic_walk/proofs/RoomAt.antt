@@ -29,7 +29,7 @@ use Rattle.walk_model.proofs.sizes.Rooms.{room_past, room_first}
 use Rattle.semantic_walk.specs.AtPlace.{IsTurnAt, IsBetweenAt, IsComing}
 use Rattle.semantic_walk.specs.Ids.{names_by, HasIds, MayEnter, MayOpen}
 use Rattle.semantic_walk.specs.Paths.{parent_in}
-use Rattle.semantic_walk.specs.Walker.{Walker, noting_node, referring, opening_in, taking_over}
+use Rattle.semantic_walk.specs.Walker.{Walker, referring, opening_in, taking_over}
 use Rattle.semantic_walk.specs.declared.visit.Turn.{Turn}
 use Rattle.semantic_walk.proofs.NamesBy.{names_alone, entered_long, opened_long, all_few}
 use Rattle.semantic_walk.proofs.Opening.{parent_above}

@@ -122,7 +122,7 @@ pub record IsEntered (ds : List Declaration) (first w : Walker) (p : Place) (own
   pub entered : w ≡ walked_into ds first p
 
 -- the walk has entered the node in its role, somewhere in a program
-pub record IsInside (w : Walker) (node : Node) (r : Role) : Type 0 where
+pub record HasEntered (w : Walker) (node : Node) (r : Role) : Type 0 where
   pub ds : List Declaration
   pub first : Walker
   pub place : Place

@@ -1,11 +1,12 @@
 //! What a walk does at nodes of a kind, told by one look at the kind: most nodes only carry what is below them.
 
-ghost use Rattle.std.specs.Prelude.{◌≡◌};
-ghost use Rattle.node_rules.specs.EvenKinds.{acts_on_entering, acts_between, is_passing};
+ghost use Rattle.std.specs.Prelude.{◌≡◌, map};
+ghost use Rattle.semantic_kinds.specs.Kinds.{all_kinds};
 ghost use Rattle.semantic_model.specs.Cursor.{cursor_before, cursor_behind};
 ghost use Rattle.semantic_model.specs.Inside.{opens, is_inside, any_inside, is_in_header};
 ghost use Rattle.semantic_tree.specs.Children.{forest_of};
 ghost use Rattle.walk_notes.specs.NoteLists.{is_noted_behind};
+ghost use Rattle.node_rules.specs.EvenKinds.{acts_on_entering, acts_between, is_passing};
 ghost use Rattle.semantic_walk.specs.Doings.{bits_of, turns_cursor, moves_cursor, holds_all, has_header};
 
 use node_rules::cursor;
@@ -66,91 +67,214 @@ fn any_inside(parent: AstType, children: &[(Role, Node)]) -> bool
     false
 }
 
+/// The bits of the kinds, in their order.
+static BITS: [u16; 190] = [
+    BETWEEN | OPENS | INSIDE, // Program
+    0, // Hashbang
+    PASSES, // Directive
+    PASSES, // BindingIdentifier
+    ENTERS | PASSES | MOVES, // IdentifierReference
+    PASSES, // IdentifierName
+    PASSES, // LabelIdentifier
+    ENTERS, // PrivateIdentifier
+    0, // FunctionBody
+    0, // SwitchCase
+    BETWEEN | OPENS | HEADER | INSIDE, // CatchClause
+    ENTERS, // CatchParameter
+    BETWEEN | OPENS | INSIDE, // BlockStatement
+    PASSES, // EmptyStatement
+    PASSES, // DebuggerStatement
+    0, // ExpressionStatement
+    0, // IfStatement
+    0, // DoWhileStatement
+    0, // WhileStatement
+    BETWEEN | OPENS | INSIDE, // ForStatement
+    BETWEEN | TURNS | OPENS | INSIDE, // ForInStatement
+    BETWEEN | TURNS | OPENS | INSIDE, // ForOfStatement
+    ENTERS, // ContinueStatement
+    ENTERS, // BreakStatement
+    0, // ReturnStatement
+    BETWEEN | OPENS, // WithStatement
+    BETWEEN | OPENS, // SwitchStatement
+    ENTERS | BEHIND, // LabeledStatement
+    0, // ThrowStatement
+    0, // TryStatement
+    0, // VariableDeclaration
+    ENTERS, // VariableDeclarator
+    ENTERS | BETWEEN | OPENS | HEADER | INSIDE, // Function
+    0, // FormalParameters
+    ENTERS | BETWEEN, // FormalParameter
+    ENTERS | BETWEEN, // FormalParameterRest
+    ENTERS, // BindingRestElement
+    0, // ObjectPattern
+    0, // BindingProperty
+    0, // ArrayPattern
+    0, // AssignmentPattern
+    ENTERS | BETWEEN | TURNS | BEHIND | OPENS, // Class
+    ENTERS, // ClassBody
+    BETWEEN | TURNS, // MethodDefinition
+    BETWEEN | TURNS, // PropertyDefinition
+    0, // AccessorProperty
+    BETWEEN | OPENS | INSIDE, // StaticBlock
+    0, // Decorator
+    0, // ImportDeclaration
+    ENTERS, // ImportSpecifier
+    ENTERS, // ImportDefaultSpecifier
+    ENTERS, // ImportNamespaceSpecifier
+    0, // WithClause
+    0, // ImportAttribute
+    0, // ExportDeclaration
+    BETWEEN | TURNS, // ExportNamedDeclaration
+    0, // ExportFromDeclaration
+    BETWEEN | TURNS, // ExportDefaultDeclaration
+    0, // ExportAllDeclaration
+    0, // ExportSpecifier
+    PASSES, // BooleanLiteral
+    PASSES, // NullLiteral
+    PASSES, // NumericLiteral
+    PASSES, // BigIntLiteral
+    PASSES, // RegExpLiteral
+    PASSES, // StringLiteral
+    0, // TemplateLiteral
+    PASSES, // TemplateElement
+    0, // TaggedTemplateExpression
+    PASSES, // ThisExpression
+    PASSES, // Super
+    0, // MetaProperty
+    0, // ArrayExpression
+    0, // Elision
+    0, // SpreadElement
+    0, // ObjectExpression
+    0, // ObjectProperty
+    ENTERS, // CallExpression
+    0, // NewExpression
+    0, // ImportExpression
+    BETWEEN | TURNS | MOVES, // ComputedMemberExpression
+    MOVES, // StaticMemberExpression
+    MOVES, // PrivateFieldExpression
+    0, // ChainExpression
+    BETWEEN | TURNS, // UnaryExpression
+    BETWEEN | TURNS, // UpdateExpression
+    0, // BinaryExpression
+    0, // PrivateInExpression
+    0, // LogicalExpression
+    BETWEEN | TURNS, // ConditionalExpression
+    BETWEEN | TURNS, // AssignmentExpression
+    0, // SequenceExpression
+    0, // ParenthesizedExpression
+    0, // AwaitExpression
+    0, // YieldExpression
+    BETWEEN | OPENS | HEADER | INSIDE, // ArrowFunctionExpression
+    0, // ObjectAssignmentTarget
+    BETWEEN | TURNS, // AssignmentTargetPropertyIdentifier
+    0, // AssignmentTargetPropertyProperty
+    BETWEEN | TURNS, // ArrayAssignmentTarget
+    0, // AssignmentTargetWithDefault
+    0, // AssignmentTargetRest
+    0, // TSAsExpression
+    0, // TSSatisfiesExpression
+    0, // TSTypeAssertion
+    0, // TSNonNullExpression
+    0, // TSInstantiationExpression
+    0, // JSXElement
+    0, // JSXFragment
+    0, // JSXOpeningElement
+    0, // JSXClosingElement
+    0, // JSXOpeningFragment
+    0, // JSXClosingFragment
+    0, // JSXEmptyExpression
+    0, // JSXAttribute
+    0, // JSXSpreadAttribute
+    0, // JSXExpressionContainer
+    0, // JSXSpreadChild
+    0, // JSXText
+    0, // JSXIdentifier
+    0, // JSXNamespacedName
+    0, // JSXMemberExpression
+    0, // TSAnyKeyword
+    0, // TSBigIntKeyword
+    0, // TSBooleanKeyword
+    0, // TSIntrinsicKeyword
+    0, // TSNeverKeyword
+    0, // TSNullKeyword
+    0, // TSNumberKeyword
+    0, // TSObjectKeyword
+    0, // TSStringKeyword
+    0, // TSSymbolKeyword
+    0, // TSUndefinedKeyword
+    0, // TSUnknownKeyword
+    0, // TSVoidKeyword
+    0, // TSThisType
+    0, // JSDocUnknownType
+    0, // TSArrayType
+    0, // TSParenthesizedType
+    BETWEEN | OPENS, // TSConditionalType
+    BETWEEN | OPENS | INSIDE, // TSConstructorType
+    BETWEEN | OPENS | INSIDE, // TSFunctionType
+    BETWEEN | OPENS | INSIDE, // TSCallSignatureDeclaration
+    BETWEEN | OPENS | INSIDE, // TSConstructSignatureDeclaration
+    0, // TSImportType
+    0, // TSImportTypeQualifiedName
+    0, // TSIndexedAccessType
+    0, // TSInferType
+    0, // TSIntersectionType
+    0, // TSUnionType
+    0, // TSLiteralType
+    BETWEEN | OPENS | INSIDE, // TSMappedType
+    0, // TSTemplateLiteralType
+    0, // TSTupleType
+    0, // TSNamedTupleMember
+    0, // TSOptionalType
+    0, // TSRestType
+    0, // TSTypeLiteral
+    0, // TSTypeOperator
+    0, // TSTypePredicate
+    MOVES, // TSTypeQuery
+    BETWEEN | TURNS, // TSTypeReference
+    0, // JSDocNullableType
+    0, // JSDocNonNullableType
+    BETWEEN | TURNS, // TSQualifiedName
+    0, // TSTypeAnnotation
+    0, // TSTypeParameterDeclaration
+    0, // TSTypeParameterInstantiation
+    ENTERS, // TSTypeParameter
+    0, // TSThisParameter
+    BETWEEN | TURNS | MOVES, // TSPropertySignature
+    BETWEEN | TURNS | OPENS, // TSMethodSignature
+    0, // TSIndexSignature
+    0, // TSIndexSignatureName
+    ENTERS | BETWEEN | OPENS, // TSTypeAliasDeclaration
+    ENTERS | BETWEEN | OPENS, // TSInterfaceDeclaration
+    0, // TSInterfaceBody
+    BETWEEN | TURNS, // TSInterfaceHeritage
+    BETWEEN | TURNS, // TSClassImplements
+    ENTERS, // TSEnumDeclaration
+    BETWEEN | OPENS | INSIDE, // TSEnumBody
+    ENTERS, // TSEnumMember
+    BETWEEN | OPENS, // TSExternalModuleDeclaration
+    ENTERS | BETWEEN | OPENS, // TSNamespaceDeclaration
+    BETWEEN | OPENS | INSIDE, // TSGlobalDeclaration
+    0, // TSModuleBlock
+    ENTERS | BETWEEN | TURNS, // TSImportEqualsDeclaration
+    0, // TSExternalModuleReference
+    BETWEEN | TURNS, // TSExportAssignment
+    0, // TSNamespaceExportDeclaration
+];
+
+/// The bits of the kinds, in their order.
+#[inline(always)]
+fn all_bits() -> &'static [u16; 190]
+    ensures { result.now ≡ map bits_of all_kinds }
+{
+    &BITS
+}
+
 /// The bits of a kind.
 #[inline(always)]
 fn bits_of(kind: AstType) -> u16
     ensures { result ≡ bits_of kind }
 {
-    match kind {
-        AstType::IdentifierReference => ENTERS | PASSES | MOVES,
-        AstType::PrivateIdentifier
-        | AstType::CatchParameter
-        | AstType::ContinueStatement
-        | AstType::BreakStatement
-        | AstType::VariableDeclarator
-        | AstType::BindingRestElement
-        | AstType::ClassBody
-        | AstType::ImportSpecifier
-        | AstType::ImportDefaultSpecifier
-        | AstType::ImportNamespaceSpecifier
-        | AstType::CallExpression
-        | AstType::TSTypeParameter
-        | AstType::TSEnumDeclaration
-        | AstType::TSEnumMember => ENTERS,
-        AstType::LabeledStatement => ENTERS | BEHIND,
-        AstType::Function => ENTERS | BETWEEN | OPENS | HEADER | INSIDE,
-        AstType::ArrowFunctionExpression | AstType::CatchClause => BETWEEN | OPENS | HEADER | INSIDE,
-        AstType::FormalParameter | AstType::FormalParameterRest => ENTERS | BETWEEN,
-        AstType::Class => ENTERS | BETWEEN | TURNS | BEHIND | OPENS,
-        AstType::TSTypeAliasDeclaration
-        | AstType::TSInterfaceDeclaration
-        | AstType::TSNamespaceDeclaration => ENTERS | BETWEEN | OPENS,
-        AstType::TSImportEqualsDeclaration => ENTERS | BETWEEN | TURNS,
-        AstType::Program
-        | AstType::BlockStatement
-        | AstType::ForStatement
-        | AstType::StaticBlock
-        | AstType::TSGlobalDeclaration
-        | AstType::TSMappedType
-        | AstType::TSEnumBody
-        | AstType::TSFunctionType
-        | AstType::TSConstructorType
-        | AstType::TSCallSignatureDeclaration
-        | AstType::TSConstructSignatureDeclaration => BETWEEN | OPENS | INSIDE,
-        AstType::ForInStatement | AstType::ForOfStatement => BETWEEN | TURNS | OPENS | INSIDE,
-        AstType::SwitchStatement
-        | AstType::WithStatement
-        | AstType::TSExternalModuleDeclaration
-        | AstType::TSConditionalType => BETWEEN | OPENS,
-        AstType::TSMethodSignature => BETWEEN | TURNS | OPENS,
-        AstType::ComputedMemberExpression | AstType::TSPropertySignature => {
-            BETWEEN | TURNS | MOVES
-        }
-        AstType::MethodDefinition
-        | AstType::PropertyDefinition
-        | AstType::ExportNamedDeclaration
-        | AstType::ExportDefaultDeclaration
-        | AstType::UnaryExpression
-        | AstType::UpdateExpression
-        | AstType::ConditionalExpression
-        | AstType::AssignmentExpression
-        | AstType::AssignmentTargetPropertyIdentifier
-        | AstType::ArrayAssignmentTarget
-        | AstType::TSTypeReference
-        | AstType::TSQualifiedName
-        | AstType::TSInterfaceHeritage
-        | AstType::TSClassImplements
-        | AstType::TSExportAssignment => BETWEEN | TURNS,
-        AstType::StaticMemberExpression
-        | AstType::PrivateFieldExpression
-        | AstType::TSTypeQuery => MOVES,
-        AstType::IdentifierName
-        | AstType::BindingIdentifier
-        | AstType::LabelIdentifier
-        | AstType::StringLiteral
-        | AstType::NumericLiteral
-        | AstType::BooleanLiteral
-        | AstType::NullLiteral
-        | AstType::RegExpLiteral
-        | AstType::BigIntLiteral
-        | AstType::TemplateElement
-        | AstType::ThisExpression
-        | AstType::Super
-        | AstType::Directive
-        | AstType::EmptyStatement
-        | AstType::DebuggerStatement => PASSES,
-        _ => 0,
-    }
+    all_bits()[kind.index()]
 }
 
 impl Doings {

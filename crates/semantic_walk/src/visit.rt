@@ -27,7 +27,7 @@ ghost use Rattle.table_building.specs.Settled.{settled_from, probes_from};
 ghost use Rattle.node_rules.specs.EvenKinds.{acts_between};
 ghost use Rattle.semantic_walk.specs.Turns.{IsTurn, child_scope, is_passed, past_leaf};
 ghost use Rattle.semantic_walk.specs.Walker.{Walker, referring};
-ghost use Rattle.semantic_walk.specs.AtPlace.{IsWithin, IsTurnAt, IsBetweenAt, IsComing, IsSomewhere, IsEntered, IsInside, walked_within, walked_over, probes_over};
+ghost use Rattle.semantic_walk.specs.AtPlace.{IsWithin, IsTurnAt, IsBetweenAt, IsComing, IsSomewhere, IsEntered, HasEntered, walked_within, walked_over, probes_over};
 ghost use Rattle.semantic_walk.specs.Ids.{MayOpen};
 ghost use Rattle.semantic_walk.specs.Leaving.{IsLeaving};
 
@@ -189,13 +189,9 @@ impl<'a> Walk<'a> {
     {
         let inside = is_ambient_inside(parent.node(), turn.is_ambient);
         self.current_scope = self.scope_of_child(turn, role);
-        self.current_reference_flags = turn.doings.before_child(
-            parent,
-            inside,
-            role,
-            child,
-            self.current_reference_flags,
-        );
+        self.current_reference_flags = turn
+            .doings
+            .before_child(parent, inside, role, child, self.current_reference_flags);
         self.is_ambient = is_ambient_in_child(parent.node(), turn.is_ambient, role);
     }
 
@@ -508,10 +504,11 @@ impl<'a> Walk<'a> {
         rules: &R,
         steps: &mut Steps<L>,
     ) -> Result<(), AllocError>
-        requires inside { IsInside self.old kind.node.now role }
+        requires inside { HasEntered self.old kind.node.now role }
         requires even { acts_between kind.node.now.kind ≡ false }
         requires unmarked { has declare_mark kind.node.now ≡ false }
-        ensures walks { (ds : List Declaration) (first : Walker) (p : Place) (own : Option OpenScope)
+        ensures walks { (ds : List Declaration) (first : Walker) (p : Place)
+            (own : Option OpenScope)
             (n : ℕ) → p.node ≡ kind.entry.node.now → p.role ≡ role
             → IsEntered ds first self.old p own n →
             OnOk result (self.new ≡ walked_within ds first p own n) }
@@ -551,9 +548,10 @@ impl<'a> Walk<'a> {
         rules: &R,
         steps: &mut Steps<L>,
     ) -> Result<(), AllocError>
-        requires inside { IsInside self.old kind.node.now role }
+        requires inside { HasEntered self.old kind.node.now role }
         requires kind { doings ≡ kind.node.now.kind }
-        ensures walks { (ds : List Declaration) (first : Walker) (p : Place) (own : Option OpenScope)
+        ensures walks { (ds : List Declaration) (first : Walker) (p : Place)
+            (own : Option OpenScope)
             (n : ℕ) → p.node ≡ kind.entry.node.now → p.role ≡ role
             → IsEntered ds first self.old p own n →
             OnOk result (self.new ≡ walked_within ds first p own n) }
@@ -595,9 +593,10 @@ impl<'a> Walk<'a> {
         rules: &R,
         steps: &mut Steps<L>,
     ) -> Result<(), AllocError>
-        requires inside { IsInside self.old kind.node.now role }
+        requires inside { HasEntered self.old kind.node.now role }
         requires kind { doings ≡ kind.node.now.kind }
-        ensures walks { (ds : List Declaration) (first : Walker) (p : Place) (own : Option OpenScope)
+        ensures walks { (ds : List Declaration) (first : Walker) (p : Place)
+            (own : Option OpenScope)
             (n : ℕ) → p.node ≡ kind.entry.node.now → p.role ≡ role
             → IsEntered ds first self.old p own n →
             OnOk result (self.new ≡ walked_within ds first p own n) }

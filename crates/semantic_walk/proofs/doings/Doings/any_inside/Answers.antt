@@ -1,4 +1,4 @@
-use Rattle.std.proofs.Common.{◌≡◌, Bool, true, not, sym, ap, ◌∙◌}
+use Rattle.std.proofs.Common.{not, sym, ap, ◌∙◌}
 use Rattle.semantic_tree.specs.Children.{forest_of}
 use Rattle.semantic_walk.proofs.DoingBits.{rest_inside, leaf_by}
 use Rattle.semantic_walk.proofs.doings.Doings.any_inside.Goals as goal

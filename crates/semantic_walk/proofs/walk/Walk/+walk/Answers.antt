@@ -1,4 +1,4 @@
-use Rattle.std.proofs.Common.{◌≡◌, ◌<◌, ◌≤◌, ◌+◌, ◌*◌, ℕ, List, ◌∷◌, true, false, Option, None, refl, ap, sym, subst, ◌∙◌, length, arith}
+use Rattle.std.proofs.Common.{◌≡◌, ◌<◌, ◌≤◌, ◌+◌, ◌*◌, ℕ, List, ◌∷◌, true, false, Option, None, refl, ap, sym, subst, ◌∙◌, arith}
 use Rattle.semantic_kinds.specs.declared.mark.Mark.TheVariants as mark
 use Rattle.semantic_kinds.specs.declared.role.Role.{Role}
 use Rattle.semantic_kinds.specs.declared.kind.AstType.{AstType}
@@ -16,7 +16,7 @@ use Rattle.semantic_model.specs.Step.{ending_after}
 use Rattle.walk_model.specs.WalkState.{WalkState}
 use Rattle.walk_model.specs.Walks.{after_all}
 use Rattle.semantic_walk.specs.Walker.{Walker}
-use Rattle.semantic_walk.specs.AtPlace.{IsComing, IsEntered, IsSomewhere, IsInside, walked_over, probes_over}
+use Rattle.semantic_walk.specs.AtPlace.{IsComing, IsEntered, IsSomewhere, HasEntered, walked_over, probes_over}
 use Rattle.node_rules.specs.EvenKinds.{acts_between}
 use Rattle.semantic_walk.specs.Turns.{is_passed, past_leaf}
 use Rattle.semantic_walk.specs.Leaving.{IsFit, IsLeaving}
@@ -38,7 +38,7 @@ use Rattle.semantic_walk.proofs.walk.Walk.+walk.Goals as goal
 
 module _ (g : given.Over) (t : ℕ) (c : walk_acting-At-loop-child_role g t) where
   -- no more is asked so far than all
-  acting_so_far : (r : IsInside c.args.self.now c.args.kind.node.now c.args.role) → c.loop-child_role.steps ≤ raised c.args.steps.now (probes_over r.ds r.first r.place r.own r.next)
+  acting_so_far : (r : HasEntered c.args.self.now c.args.kind.node.now c.args.role) → c.loop-child_role.steps ≤ raised c.args.steps.now (probes_over r.ds r.first r.place r.own r.next)
   acting_so_far r =
       rests_so_far r.ds r.first r.place r.own r.next c.args.steps.now c.loop-child_role.steps c.loop-child_role.self c.loop-child_role.turn (forest_of c.loop-child_role.left.now)
       (c.loop-child_role.invariant.rests r.ds r.first r.place r.own r.next r.node_is r.role_is r.inside)
@@ -52,14 +52,14 @@ module _ (g : given.Over) (t : ℕ) (c : walk_acting-After-new-child g t) where
   acting_split = c.in-Some.ensures.cases.0 ∙ ap (λ (x : Node). (c.in-Some.field-0-0.now.0, x) ∷ c.in-Some.rest.now) (sym c.new-child.ensures)
 
   -- which the walk is still to go over
-  acting_rests : (r : IsInside c.args.self.now c.args.kind.node.now c.args.role)
+  acting_rests : (r : HasEntered c.args.self.now c.args.kind.node.now c.args.role)
       → Rests r.ds r.first r.place r.own r.next c.args.steps.now c.loop-child_role.steps c.loop-child_role.self c.loop-child_role.turn (forest_of (acting_child ∷ c.in-Some.rest.now))
   acting_rests r =
       subst (λ (xs : List (Role × Node)). Rests r.ds r.first r.place r.own r.next c.args.steps.now c.loop-child_role.steps c.loop-child_role.self c.loop-child_role.turn (forest_of xs)) acting_split
       (c.loop-child_role.invariant.rests r.ds r.first r.place r.own r.next r.node_is r.role_is r.inside)
 
 -- the walk comes to the child
-acting_comes : (g : given.Over) (t : ℕ) (c : walk_acting-In_ok-begin_child g t) (r : IsInside c.args.self.now c.args.kind.node.now c.args.role)
+acting_comes : (g : given.Over) (t : ℕ) (c : walk_acting-In_ok-begin_child g t) (r : HasEntered c.args.self.now c.args.kind.node.now c.args.role)
     → Rests r.ds r.first r.place r.own r.next c.args.steps.now c.loop-child_role.steps c.loop-child_role.self c.loop-child_role.turn (forest_of ((c.in-Some.field-0-0.now.0, c.new-child.result.node.now) ∷ c.in-Some.rest.now))
     → ComesToChild r.ds r.first r.place r.own r.next c.args.steps.now c.loop-child_role.steps c.loop-child_role.self c.begin_child.new.self c.loop-child_role.turn c.begin_child.new.turn
     (c.in-Some.field-0-0.now.0, c.new-child.result.node.now) c.in-Some.rest.now
@@ -74,7 +74,7 @@ acting_comes g t c r h =
     }
 
 -- behind the last child nothing rests
-acting_none : (g : given.Over) (t : ℕ) (c : walk_acting-In_default g t) (r : IsInside c.args.self.now c.args.kind.node.now c.args.role)
+acting_none : (g : given.Over) (t : ℕ) (c : walk_acting-In_default g t) (r : HasEntered c.args.self.now c.args.kind.node.now c.args.role)
     → Rests r.ds r.first r.place r.own r.next c.args.steps.now c.loop-child_role.steps c.loop-child_role.self c.loop-child_role.turn nothing
 acting_none g t c r =
     subst (λ (f : Forest). Rests r.ds r.first r.place r.own r.next c.args.steps.now c.loop-child_role.steps c.loop-child_role.self c.loop-child_role.turn f)
@@ -135,14 +135,14 @@ walk_acting-begin_child-requires-clause-turn g t c = c.loop-child_role.invariant
 -- the turn is that of the node
 pub walk_acting-begin_child-requires-clause-kind : goal.walk_acting-begin_child-requires-clause-kind
 walk_acting-begin_child-requires-clause-kind g t c =
-    let r : IsInside c.args.self.now c.args.kind.node.now c.args.role = c.requires.inside in
+    let r : HasEntered c.args.self.now c.args.kind.node.now c.args.role = c.requires.inside in
     let h = acting_rests g t (goal.at.walk_acting-begin_child-requires-clause-kind g t c).After-new-child r in
     h.between.stands.doings ∙ ap (λ (x : Node). x.kind) r.node_is
 
 -- there are ids for a scope that opens
 pub walk_acting-begin_child-requires-clause-ids : goal.walk_acting-begin_child-requires-clause-ids
 walk_acting-begin_child-requires-clause-ids g t c =
-    let r : IsInside c.args.self.now c.args.kind.node.now c.args.role = c.requires.inside in
+    let r : HasEntered c.args.self.now c.args.kind.node.now c.args.role = c.requires.inside in
     let child : Role × Node = (c.in-Some.field-0-0.now.0, c.new-child.result.node.now) in
     let h = acting_rests g t (goal.at.walk_acting-begin_child-requires-clause-ids g t c).After-new-child r in
     let kind_is : c.loop-child_role.turn.doings ≡ c.args.kind.node.now.kind = h.between.stands.doings ∙ ap (λ (x : Node). x.kind) r.node_is in
@@ -154,7 +154,7 @@ pub walk_acting-walk_child-requires : goal.walk_acting-walk_child-requires
 walk_acting-walk_child-requires g t c =
     let child : Role × Node = (c.in-Some.field-0-0.now.0, c.new-child.result.node.now) in
     let at = goal.at.walk_acting-walk_child-requires g t c in
-    let r : IsInside c.args.self.now c.args.kind.node.now c.args.role = c.requires.inside in
+    let r : HasEntered c.args.self.now c.args.kind.node.now c.args.role = c.requires.inside in
     let k = acting_comes g t at.In_ok-begin_child r (acting_rests g t at.After-new-child r) in
     let there : IsSomewhere c.begin_child.new.self child.1 child.0 = somewhere r.ds (place k) None (next k) refl refl k.coming in
     let smaller : 4 * count child.1.children + 3 < t = omega (arith, c.loop-child_role.invariant.left, ap (λ (xs : List (Role × Node)). count (forest_of xs)) (acting_split g t at.After-new-child), c.decreases) in
@@ -168,7 +168,7 @@ walk_acting-open_last-requires-clause-turn g t c = c.loop-child_role.invariant.t
 
 pub walk_acting-open_last-requires-clause-ids : goal.walk_acting-open_last-requires-clause-ids
 walk_acting-open_last-requires-clause-ids g t c =
-    let r : IsInside c.args.self.now c.args.kind.node.now c.args.role = c.requires.inside in
+    let r : HasEntered c.args.self.now c.args.kind.node.now c.args.role = c.requires.inside in
     let h = acting_none g t (goal.at.walk_acting-open_last-requires-clause-ids g t c).In_default r in
     let kind_is : c.loop-child_role.turn.doings ≡ c.args.kind.node.now.kind = h.between.stands.doings ∙ ap (λ (x : Node). x.kind) r.node_is in
     λ absent some. opens_last r.ds c.loop-child_role.self c.loop-child_role.turn r.place h.scope h.next h.cursor h.start c.args.kind.node.now r.node_is h.between absent (ap opens (sym kind_is) ∙ some)
@@ -251,26 +251,26 @@ module _ (g : given.Over) (t : ℕ) (c : walk_even-After-new-child g t) where
   abbrev even_turn : Turn
   even_turn = turn_at c.args.self.now c.args.kind.node.now.kind
 
-  even_rests : (r : IsInside c.args.self.now c.args.kind.node.now c.args.role) → Rests r.ds r.first r.place r.own r.next c.args.steps.now c.loop-child_role.steps c.loop-child_role.self even_turn (forest_of (even_child ∷ c.in-Some.rest.now))
+  even_rests : (r : HasEntered c.args.self.now c.args.kind.node.now c.args.role) → Rests r.ds r.first r.place r.own r.next c.args.steps.now c.loop-child_role.steps c.loop-child_role.self even_turn (forest_of (even_child ∷ c.in-Some.rest.now))
   even_rests r =
       subst (λ (xs : List (Role × Node)). Rests r.ds r.first r.place r.own r.next c.args.steps.now c.loop-child_role.steps c.loop-child_role.self even_turn (forest_of xs)) even_split
       (c.loop-child_role.invariant.rests r.ds r.first r.place r.own r.next r.node_is r.role_is r.inside)
 
   -- at the place, too, nothing happens
-  even_at : (r : IsInside c.args.self.now c.args.kind.node.now c.args.role) → acts_between r.place.node.kind ≡ false
+  even_at : (r : HasEntered c.args.self.now c.args.kind.node.now c.args.role) → acts_between r.place.node.kind ≡ false
   even_at r = ap (λ (x : Node). acts_between x.kind) r.node_is ∙ c.requires.even
 
-  unmarked_at : (r : IsInside c.args.self.now c.args.kind.node.now c.args.role) → has mark.Declare r.place.node ≡ false
+  unmarked_at : (r : HasEntered c.args.self.now c.args.kind.node.now c.args.role) → has mark.Declare r.place.node ≡ false
   unmarked_at r = ap (has mark.Declare) r.node_is ∙ c.requires.unmarked
 
 -- the walk turns its cursor to that of the child
-even_turned : (g : given.Over) (t : ℕ) (c : walk_even-After-turn_to g t) (r : IsInside c.args.self.now c.args.kind.node.now c.args.role)
+even_turned : (g : given.Over) (t : ℕ) (c : walk_even-After-turn_to g t) (r : HasEntered c.args.self.now c.args.kind.node.now c.args.role)
     → c.turn_to.new.self ≡ record c.loop-child_role.self { cursor = cursor_before r.place.node c.loop-child_role.self.is_ambient c.in-Some.field-0-0.now.0 c.new-child.result.node.now c.loop-child_role.self.cursor }
 even_turned g t c r =
     c.turn_to.ensures.made
     ∙ ap (λ (x : Node). record c.loop-child_role.self { cursor = cursor_before x c.loop-child_role.self.is_ambient c.in-Some.field-0-0.now.0 c.new-child.result.node.now c.loop-child_role.self.cursor }) (sym r.node_is)
 
-even_none : (g : given.Over) (t : ℕ) (c : walk_even-In_default g t) (r : IsInside c.args.self.now c.args.kind.node.now c.args.role)
+even_none : (g : given.Over) (t : ℕ) (c : walk_even-In_default g t) (r : HasEntered c.args.self.now c.args.kind.node.now c.args.role)
     → Rests r.ds r.first r.place r.own r.next c.args.steps.now c.loop-child_role.steps c.loop-child_role.self (turn_at c.args.self.now c.args.kind.node.now.kind) nothing
 even_none g t c r =
     subst (λ (f : Forest). Rests r.ds r.first r.place r.own r.next c.args.steps.now c.loop-child_role.steps c.loop-child_role.self (turn_at c.args.self.now c.args.kind.node.now.kind) f)
@@ -322,14 +322,14 @@ walk_even-walk_child-requires g t c =
     let at = goal.at.walk_even-walk_child-requires g t c in
     let start = at.After-new-child in
     let child : Role × Node = even_child g t start in
-    let r : IsInside c.args.self.now c.args.kind.node.now c.args.role = c.requires.inside in
+    let r : HasEntered c.args.self.now c.args.kind.node.now c.args.role = c.requires.inside in
     let h = even_rests g t start r in
     let turned = even_turned g t at.After-turn_to r in
     let even = even_at g t start r in
     let unmarked = unmarked_at g t start r in
     let coming = coming_even r.ds r.first r.place r.own r.next child c.in-Some.rest.now w v (even_turn g t start) c.args.steps.now c.loop-child_role.steps even unmarked h turned in
     let there : IsSomewhere v child.1 child.0 = somewhere r.ds (even_place r.ds r.first r.place r.own r.next child c.in-Some.rest.now w v (even_turn g t start) c.args.steps.now c.loop-child_role.steps even unmarked h turned) None
-        (even_next r.ds r.first r.place r.own r.next child c.in-Some.rest.now w v (even_turn g t start) c.args.steps.now c.loop-child_role.steps even unmarked h turned) refl refl coming in
+    (even_next r.ds r.first r.place r.own r.next child c.in-Some.rest.now w v (even_turn g t start) c.args.steps.now c.loop-child_role.steps even unmarked h turned) refl refl coming in
     let smaller : 4 * count child.1.children + 3 < t = omega (arith, c.loop-child_role.invariant.left, ap (λ (xs : List (Role × Node)). count (forest_of xs)) (even_split g t start), c.decreases) in
     λ κs out. (smaller, (out.0, (out.1, there)))
 

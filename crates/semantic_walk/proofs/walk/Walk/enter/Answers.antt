@@ -1,6 +1,6 @@
 use Rattle.std.proofs.Common.{◌≡◌, [], ◌∷◌, ◌++◌, false, length, sym, ap, ◌∙◌, arith}
-use Rattle.semantic_walk.specs.Walker.{Walker}
 use Rattle.node_rules.specs.EvenKinds.{acts_on_entering}
+use Rattle.semantic_walk.specs.Walker.{Walker}
 use Rattle.semantic_walk.proofs.RoomAt.{ids_kept}
 use Rattle.semantic_walk.proofs.EnterSteps.{enters_quietly}
 use Rattle.semantic_walk.proofs.walk.Walk.enter.Goals as goal
