@@ -1,7 +1,7 @@
 use Rattle.std.proofs.Common.{◌≡◌, drop}
 use Rattle.semantic_tree.specs.Children.{forest_of}
 use Rattle.semantic_model.specs.Inside.{any_inside}
-use Rattle.semantic_walk.proofs.visit.any_inside.Given as goal
+use Rattle.semantic_walk.proofs.doings.any_inside.Given as goal
 
 -- none so far is inside
 abbrev pub invariant-loop-role : goal.invariant-loop-role
