@@ -1,5 +1,5 @@
 -- Place by place, what the scopes answer is what the name means in the containers.
-use Rattle.std.proofs.Common.{◌≡◌, ℕ, List, [], ◌∷◌, ◌++◌, Option, Some, None, Bool, true, false, ◌&&◌, ◌||◌, not, cond, refl, sym, ap, subst, ◌∙◌, inl, inr, ◌⊎◌, bytes_eq, codes, map, filter}
+use Rattle.std.proofs.Common.{◌≡◌, ℕ, ◌==◌, List, [], ◌∷◌, ◌++◌, Option, Some, None, Bool, true, false, ◌&&◌, ◌||◌, not, cond, refl, sym, ap, subst, ◌∙◌, inl, inr, ◌⊎◌, bytes_eq, codes, map, filter}
 use Rattle.std.specs.List.{list_any}
 use Rattle.std.proofs.lemmas.Bool.{cases_Bool, and_from, not-true}
 use Rattle.semantic_syntax.proofs.Truth.{and_first, and_second}
@@ -33,14 +33,14 @@ use Rattle.semantic_model.proofs.steps.Turn.{Turn, turn_at}
 use Rattle.semantic_model.proofs.steps.TurnCases.{opening_case, ending_case, last_case}
 use Rattle.walk_model.proofs.places.Shapes.{holds_below}
 use Rattle.semantic_model.specs.TablesOf.{made_of}
-use Rattle.binding_laws.specs.SeenDeclarations.{bound_by_all}
+use Rattle.binding_laws.specs.SeenDeclarations.{is_own_name, stands_before_body, is_before_body, bound_by_all}
 use Rattle.binding_laws.proofs.SymbolsAtNodes.{symbols_are_at_nodes}
 use Rattle.typescript_ties.specs.Containers.{Container, same_container_kind, same_members, same_container, is_container, no_container, outside_function, containers_by}
 use Rattle.typescript_ties.specs.MeaningSets.{MeaningSet, sort_meanings}
 use Rattle.typescript_ties.specs.NamedDeclarations.{NamedDeclaration, named_in}
 use Rattle.typescript_ties.specs.Resolved.{Resolved, nowhere, declared_in, has_declared, declarations_in, has_meaning, resolve}
 use Rattle.typescript_ties.specs.SeenTogether.{is_in_scope, is_seen_from, bound_together, asked_together}
-use Rattle.typescript_ties.specs.SimpleNames.{is_common_child, is_common_forest, is_common, is_apart, is_simple_sort, IsSimplyDeclared, HasOwnMembers, StandsWithTypes, is_way_of}
+use Rattle.typescript_ties.specs.SimpleNames.{is_common_child, is_common_forest, is_common, is_apart, is_simple_sort, IsSimplyDeclared, HasOwnMembers, is_way_of}
 use Rattle.typescript_ties.specs.declared.container_kind.ContainerKind.TheVariants as container
 use Rattle.typescript_ties.specs.declared.declaration_sort.DeclarationSort.TheVariants as sort
 use Rattle.typescript_ties.proofs.ChildChains.{ChainOf, outer_chain, inner_chain, OwnOf, own_of, chain_of}
@@ -49,7 +49,7 @@ use Rattle.typescript_ties.proofs.FitsTogether.{any_meets, AreBoundAs, bound_as_
 use Rattle.typescript_ties.proofs.HeadPlaces.{IsCommonPlace, CommonStep, common_places, round_place}
 use Rattle.typescript_ties.proofs.OutsideGroups.{IsAside, aside_of}
 use Rattle.typescript_ties.proofs.Pairs.{container_kind_is}
-use Rattle.typescript_ties.proofs.ScopeMembers.{SeenAs, seen_as, in_header_types, SeenToo, seen_too}
+use Rattle.typescript_ties.proofs.ScopeMembers.{SeenAs, seen_as, SeenToo, seen_too}
 use Rattle.typescript_ties.proofs.ScopeOpeners.{openers, IsOpened, AllOpened, IsPlaceOpened, places_opened}
 use Rattle.typescript_ties.proofs.SimpleDeclarations.{IsBoth, of_language, made_so, one_symbol}
 use Rattle.typescript_ties.proofs.UndeclaredFree.{OfEntered, IsEnteredIn, all_entered}
@@ -134,7 +134,7 @@ module _ (x : Name) (w : ℕ) (no_arguments : bytes_eq x (codes "arguments") ≡
 -- ---- places
 
 module _ (p : Tree) (h : first_fault p ≡ None) (common : is_common p ≡ true) (typed : is_typescript p.source_type ≡ true) (numbered : IsNumbered p.root) (x : Name) (no_arguments : bytes_eq x (codes "arguments") ≡ false)
-    (simply : IsSimplyDeclared p x) (alone : HasOwnMembers p x) (types : StandsWithTypes p x) where
+    (simply : IsSimplyDeclared p x) (alone : HasOwnMembers p x) where
   abbrev ns : List NamedDeclaration
   ns = named_in p
 
@@ -364,16 +364,16 @@ module _ (p : Tree) (h : first_fault p ≡ None) (common : is_common p ≡ true)
             all_have d b l (λ z a. f z (inr a)),
           )
 
-      -- in a header they are type parameters, and no namespaces
+      -- in a header stands no namespace
       no_header : meets F symbol.AsNamespace.bits ≡ true → s.in_header ≡ false
       no_header e = elim (cases_Bool s.in_header) [
         | inr i ↦ i
         | inl i ↦ (let (m, a, g) = any_among (λ y. meets y.declaration.naming.flags symbol.AsNamespace.bits) seen (sym (any_is symbol.AsNamespace.bits) ∙ e) in
             let b : Seen' m = of_seen m a in
-            let free : is_apart b.named.container.kind ≡ false = not-true (is_apart b.named.container.kind) (and_second (is_simple_sort b.named.sort) (not (is_apart b.named.container.kind)) (simply b.named b.both.named b.both.named_so)) in
-            let typed_container : is_container container.TypeParameters b.named.container ≡ true = in_header_types p h common typed numbered x simply alone q entered k r node text tells headed inside s opener header opened c c_entered c_round i b.named.container b.there_so free in
-            let is_parameter : b.named.sort ≡ sort.TypeParameter = types b.named b.both.named b.both.named_so typed_container in
-            absurd (never (sym g ∙ b.both.pair.flags.namespace ∙ ap (λ z. (sort_meanings z).namespace) is_parameter)))
+            let before : is_before_body s.number x m ≡ true = sym (ap (λ t. cond t (is_before_body s.number x m) (is_in_scope s.number x m)) i) ∙ (among_filter (is_seen_from s x) (made_of p) m a).1 in
+            let headed : (m.declaration.route.target.in_header || is_own_name m.declaration) ≡ true = and_second (m.declaration.route.target.number == s.number) (m.declaration.route.target.in_header || is_own_name m.declaration) (and_first (stands_before_body s.number m.declaration) (bytes_eq m.declaration.naming.name x) before) in
+            let unheaded : m.declaration.route.target.in_header ≡ false = b.both.pair.home.unheaded (sym b.both.pair.flags.namespace ∙ g) in
+            absurd (never (sym headed ∙ (λ t. unheaded t || b.both.pair.flags.no_own t))))
       ]
 
       missed : is_asked asked F ≡ true → is_usable w F ≡ false → IsMissed w

@@ -16,7 +16,7 @@ use Rattle.semantic_model.specs.EachStep.{EachStep}
 use Rattle.semantic_model.specs.Entries.{Among}
 use Rattle.semantic_model.specs.Inside.{is_inside, is_in_header, is_parameter_decorator}
 use Rattle.semantic_model.specs.Place.{Place, OpenScope, innermost}
-use Rattle.semantic_model.specs.Step.{Step, entering, opening, header_ending, closing, leaving, steps, steps_below, root_place, child_place}
+use Rattle.semantic_model.specs.Step.{Step, entering, opening, header_ending, closing, leaving, steps, steps_below, root_place}
 use Rattle.semantic_model.proofs.form.ParameterChains.{is_open_inside}
 use Rattle.semantic_model.proofs.form.Shape.{has_form}
 use Rattle.semantic_model.proofs.lists.Members.{among_cases}
@@ -32,6 +32,7 @@ use Rattle.typescript_ties.proofs.ChildPlaces.{same_truth, is_function, tells_in
 use Rattle.typescript_ties.proofs.GroupNodes.{stands_by}
 use Rattle.typescript_ties.proofs.Heads.{HeadOf, head_of}
 use Rattle.typescript_ties.proofs.UndeclaredFree.{OfEntered, IsEnteredIn, all_entered}
+use Rattle.typescript_ties.proofs.Unheaded.{is_unheaded, stands_unheaded, tree_unheaded, child_unheaded}
 
 never : true ≡ false → ⊥
 never h = absurd cc
@@ -71,6 +72,7 @@ module _ (p : Tree) where
     pub head : HeadAt q
     pub no_with : same_kind q.node.kind kind.WithStatement ≡ false
     pub source : q.source_type ≡ s
+    pub unheaded : is_unheaded q.node.kind ≡ true → (innermost q.chain).in_header ≡ false
 
   abbrev pub CommonStep : Step → Type 0
   CommonStep (entering q) = IsCommonPlace q
@@ -210,10 +212,10 @@ module _ (p : Tree) where
 
   -- ---- all children
 
-  common_below : (q : Place) (own : Option OpenScope) (n cursor : ℕ) (f : Forest) → Among (entering q) (steps p) → IsCommonPlace q → OwnOf q own → is_common_forest q.node.kind f ≡ true → holds_below tells_inside q.node.kind f ≡ true → holds_below tells_header q.node.kind f ≡ true
+  common_below : (q : Place) (own : Option OpenScope) (n cursor : ℕ) (f : Forest) → Among (entering q) (steps p) → IsCommonPlace q → OwnOf q own → is_common_forest q.node.kind f ≡ true → holds_below tells_inside q.node.kind f ≡ true → holds_below tells_header q.node.kind f ≡ true → holds_below stands_unheaded q.node.kind f ≡ true
       → EachStep (OfEntered (IsEnteredIn (steps p))) (steps_below q own n cursor f) → EachStep CommonStep (steps_below q own n cursor f)
-  common_below q own n cursor nothing a k o c t h es = last_case (EachStep CommonStep) q own n tt (tt, (tt, tt))
-  common_below q own n cursor (tree r k2 span text marks below id after) a k o c t h es =
+  common_below q own n cursor nothing a k o c t h u es = last_case (EachStep CommonStep) q own n tt (tt, (tt, tt))
+  common_below q own n cursor (tree r k2 span text marks below id after) a k o c t h u es =
       let node : Node = record { kind = k2; span = span; text = text; marks = marks; children = below; node_id = id } in
       let turn : Turn = turn_at q own n cursor r node after in
       let entered : EachOfTurn (OfEntered (IsEnteredIn (steps p))) turn = turn_of_each (OfEntered (IsEnteredIn (steps p))) turn es in
@@ -223,24 +225,27 @@ module _ (p : Tree) where
       let undecorated : (not (is_parameter_decorator q.node.kind r) && not decorated) ≡ true = and_second (not (same_kind k2 kind.WithStatement)) (not (is_parameter_decorator q.node.kind r) && not decorated) here in
       let tells : (holds_below tells_inside k2 below && holds_below tells_inside q.node.kind after) ≡ true = and_second (tells_inside q.node.kind r k2 text) (holds_below tells_inside k2 below && holds_below tells_inside q.node.kind after) t in
       let headed : (holds_below tells_header k2 below && holds_below tells_header q.node.kind after) ≡ true = and_second (tells_header q.node.kind r k2 text) (holds_below tells_header k2 below && holds_below tells_header q.node.kind after) h in
+      let unheaded : (holds_below stands_unheaded k2 below && holds_below stands_unheaded q.node.kind after) ≡ true = and_second (stands_unheaded q.node.kind r k2 text) (holds_below stands_unheaded k2 below && holds_below stands_unheaded q.node.kind after) u in
       let own_is : OwnOf q turn.scope = own_of q r own n o in
+      let chain : ChainOf q.node.kind r q.node q.chain turn.child.chain =
+      chain_of q r turn.scope cursor node (not-true (is_parameter_decorator q.node.kind r) (and_first (not (is_parameter_decorator q.node.kind r)) (not decorated) undecorated)) (is_open_inside q r own n) own_is in
       let child : IsCommonPlace turn.child = record {
-        head = child_head q a k r node text (child_place q turn.scope cursor r node).chain
-            (chain_of q r turn.scope cursor node (not-true (is_parameter_decorator q.node.kind r) (and_first (not (is_parameter_decorator q.node.kind r)) (not decorated) undecorated)) (is_open_inside q r own n) own_is)
+        head = child_head q a k r node text turn.child.chain chain
             (and_first (tells_inside q.node.kind r k2 text) (holds_below tells_inside k2 below && holds_below tells_inside q.node.kind after) t)
             (and_first (tells_header q.node.kind r k2 text) (holds_below tells_header k2 below && holds_below tells_header q.node.kind after) h)
             (not-true decorated (and_second (not (is_parameter_decorator q.node.kind r)) (not decorated) undecorated))
             turn.child refl refl refl;
         no_with = not-true (same_kind k2 kind.WithStatement) (and_first (not (same_kind k2 kind.WithStatement)) (not (is_parameter_decorator q.node.kind r) && not decorated) here);
         source = k.source;
+        unheaded = child_unheaded q.node.kind r k2 text q.node q.chain turn.child.chain k.unheaded (and_first (stands_unheaded q.node.kind r k2 text) (holds_below stands_unheaded k2 below && holds_below stands_unheaded q.node.kind after) u) chain;
       } in
       each_of_turn CommonStep turn (record {
         before = opening_case (EachStep CommonStep) q r own n tt (tt, tt);
         whole = each_of_node CommonStep turn.child turn.below child
-            (common_below turn.child None turn.next turn.inner below entered.whole.0 child tt (and_first (is_common_forest k2 below) (is_common_forest q.node.kind after) forests) (and_first (holds_below tells_inside k2 below) (holds_below tells_inside q.node.kind after) tells) (and_first (holds_below tells_header k2 below) (holds_below tells_header q.node.kind after) headed)
+            (common_below turn.child None turn.next turn.inner below entered.whole.0 child tt (and_first (is_common_forest k2 below) (is_common_forest q.node.kind after) forests) (and_first (holds_below tells_inside k2 below) (holds_below tells_inside q.node.kind after) tells) (and_first (holds_below tells_header k2 below) (holds_below tells_header q.node.kind after) headed) (and_first (holds_below stands_unheaded k2 below) (holds_below stands_unheaded q.node.kind after) unheaded)
             (each_left (OfEntered (IsEnteredIn (steps p))) turn.below (leaving turn.child ∷ []) entered.whole.1)) tt;
         behind = ending_case (EachStep CommonStep) q r turn.scope after tt (λ o. (tt, tt)) (λ o. (tt, tt)) (λ o. (tt, (tt, tt)));
-        others = common_below q turn.scope turn.rest turn.past after a k own_is (and_second (is_common_forest k2 below) (is_common_forest q.node.kind after) forests) (and_second (holds_below tells_inside k2 below) (holds_below tells_inside q.node.kind after) tells) (and_second (holds_below tells_header k2 below) (holds_below tells_header q.node.kind after) headed) entered.others;
+        others = common_below q turn.scope turn.rest turn.past after a k own_is (and_second (is_common_forest k2 below) (is_common_forest q.node.kind after) forests) (and_second (holds_below tells_inside k2 below) (holds_below tells_inside q.node.kind after) tells) (and_second (holds_below tells_header k2 below) (holds_below tells_header q.node.kind after) headed) (and_second (holds_below stands_unheaded k2 below) (holds_below stands_unheaded q.node.kind after) unheaded) entered.others;
       })
 
   root_common : first_fault p ≡ None → IsCommonPlace (root_place p)
@@ -255,6 +260,7 @@ module _ (p : Tree) where
     };
     no_with = subst (λ k. same_kind k kind.WithStatement ≡ false) (sym (has_form p h).root) refl;
     source = refl;
+    unheaded = λ e. refl;
   }
     where
       at : (b : Bool) → is_apart (bound_container b (round_place (root_place p))).kind ≡ false → true ≡ false
@@ -276,4 +282,4 @@ module _ (p : Tree) where
       let below : List Step = steps_below root None 0 n p.root.children in
       let es : EachStep (OfEntered (IsEnteredIn (steps p))) (steps p) = all_entered (steps p) (steps p) (λ st a. a) in
       each_of_node CommonStep root below (root_common h)
-      (common_below root None 0 n p.root.children es.0 (root_common h) tt c (tree_tells p h) (tree_headed p h) (each_left (OfEntered (IsEnteredIn (steps p))) below (leaving root ∷ []) es.1)) tt
+      (common_below root None 0 n p.root.children es.0 (root_common h) tt c (tree_tells p h) (tree_headed p h) (tree_unheaded p h) (each_left (OfEntered (IsEnteredIn (steps p))) below (leaving root ∷ []) es.1)) tt

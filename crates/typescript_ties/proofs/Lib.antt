@@ -7,6 +7,7 @@ pub mod OtherNames
 pub mod PlainFold
 pub mod TiedTogether
 pub mod ChildPlaces
+pub mod Unheaded
 pub mod Heads
 pub mod EnteredOnce
 pub mod ScopeOpeners
@@ -24,5 +25,6 @@ pub mod ReferredNodes
 pub mod UntangledTies
 pub mod MergedBlocks
 pub mod SharedMembers
+pub mod EnumBodies
 pub mod OwnMembers
 pub mod SimpleByTrial

@@ -38,6 +38,7 @@ use Rattle.typescript_ties.specs.declared.declaration_sort.DeclarationSort.{Decl
 use Rattle.typescript_ties.specs.declared.declaration_sort.DeclarationSort.TheVariants as sort
 use Rattle.typescript_ties.proofs.HeadPlaces.{HeadAt, HasOrigin, IsHeaded, IsCommonPlace, round_place}
 use Rattle.typescript_ties.proofs.KnownPlaces.{is_bare_rest}
+use Rattle.typescript_ties.proofs.Unheaded.{is_unheaded}
 
 never : true ≡ false → ⊥
 never h = absurd cc
@@ -63,6 +64,7 @@ module _ (p : Tree) where
     pub lasting : w.route.target.body ≡ None
     pub in_body : is_container container.Body n.container ≡ true → w.route.target.in_header ≡ false
     pub in_header : is_container container.TypeParameters n.container ≡ true → IsHeaded p w.route.target
+    pub unheaded : (sort_meanings n.sort).namespace ≡ true → w.route.target.in_header ≡ false
     pub origin : HasOrigin p n.container
     pub place : Place
     pub entered : Among (entering place) (steps p)
@@ -120,9 +122,16 @@ module _ (p : Tree) where
     abbrev not_apart : (n : NamedDeclaration) → is_simple n ≡ true → is_apart n.container.kind ≡ false
     not_apart n e = not-true (is_apart n.container.kind) (and_second (is_simple_sort n.sort) (not (is_apart n.container.kind)) e)
 
+    -- what may be a namespace is declared by a node that stands in no header
+    abbrev IsUnheaded : DeclarationSort → Type 0
+    IsUnheaded j = (sort_meanings j).namespace ≡ true → is_unheaded q.node.kind ≡ true
+
+    no_namespace : (b : Bool) → false ≡ true → b ≡ true
+    no_namespace b i = absurd (never (sym i))
+
     -- declared where the node stands
-    at_head : (w : Declaration) (n : NamedDeclaration) (b : Bool) → w.route.target ≡ innermost q.chain → n.container ≡ bound_container b cs → is_apart n.container.kind ≡ false → IsAtHome w n
-    at_head w n b t e a =
+    at_head : (w : Declaration) (n : NamedDeclaration) (b : Bool) → w.route.target ≡ innermost q.chain → n.container ≡ bound_container b cs → is_apart n.container.kind ≡ false → IsUnheaded n.sort → IsAtHome w n
+    at_head w n b t e a u =
         let h : HeadAt p q = k.head in
         let free : is_apart (bound_container b cs).kind ≡ false = subst (λ c. is_apart c.kind ≡ false) e a in
         record {
@@ -130,6 +139,7 @@ module _ (p : Tree) where
           lasting = ap (λ o. o.body) t ∙ h.lasting b free;
           in_body = λ i. ap (λ o. o.in_header) t ∙ h.in_body b (subst (λ c. is_container container.Body c ≡ true) e i);
           in_header = λ i. subst (IsHeaded p) (sym t) (h.in_header b (subst (λ c. is_container container.TypeParameters c ≡ true) e i));
+          unheaded = λ i. ap (λ o. o.in_header) t ∙ k.unheaded (u i);
           place = q;
           entered = entered;
           target = t;
@@ -140,11 +150,11 @@ module _ (p : Tree) where
         origin_of (inl i) = absurd (never (sym i ∙ a))
         origin_of (inr o) = o
 
-    pair_here : (flags excluded : ℕ) (pure : Bool) (j : DeclarationSort) (b : Bool) (also : List Container) → FlagsAre j flags → ((c : Container) → same_container_kind container.Globals c.kind ≡ false → list_any (λ e. same_container e c) also ≡ false) → (id : Node)
+    pair_here : (flags excluded : ℕ) (pure : Bool) (j : DeclarationSort) (b : Bool) (also : List Container) → IsUnheaded j → FlagsAre j flags → ((c : Container) → same_container_kind container.Globals c.kind ≡ false → list_any (λ e. same_container e c) also ≡ false) → (id : Node)
         → IsPair (declaration_at q.node (record { flags = flags; excluded = excluded; how = plain; route = here q.chain }) pure id) (named_declaration j (bound_container b cs) also id)
-    pair_here flags excluded pure j b also f g id = record {
+    pair_here flags excluded pure j b also u f g id = record {
       told = refl;
-      simple = λ e. record { how = refl; flags = f; home = at_head (declaration_at q.node (record { flags = flags; excluded = excluded; how = plain; route = here q.chain }) pure id) (named_declaration j (bound_container b cs) also id) b refl refl (not_apart (named_declaration j (bound_container b cs) also id) e); also = g };
+      simple = λ e. record { how = refl; flags = f; home = at_head (declaration_at q.node (record { flags = flags; excluded = excluded; how = plain; route = here q.chain }) pure id) (named_declaration j (bound_container b cs) also id) b refl refl (not_apart (named_declaration j (bound_container b cs) also id) e) u; also = g };
     }
 
     nothing_else : (c : Container) → same_container_kind container.Globals c.kind ≡ false → list_any (λ e. same_container e c) [] ≡ false
@@ -158,17 +168,17 @@ module _ (p : Tree) where
         go true = rw e refl
         go false = refl
 
-    sort_here : (flags excluded : ℕ) (pure : Bool) (j : DeclarationSort) → FlagsAre j flags → (id : Node)
+    sort_here : (flags excluded : ℕ) (pure : Bool) (j : DeclarationSort) → IsUnheaded j → FlagsAre j flags → (id : Node)
         → IsPair (declaration_at q.node (record { flags = flags; excluded = excluded; how = plain; route = here q.chain }) pure id) (declared_here j s q.node q.path id)
-    sort_here flags excluded pure j f id =
+    sort_here flags excluded pure j u f id =
         let b : Bool = is_exported_under s q.path in
-        pair_here flags excluded pure j b (global_besides (bound_container b cs)) f (beside (bound_container b cs)) id
+        pair_here flags excluded pure j b (global_besides (bound_container b cs)) u f (beside (bound_container b cs)) id
 
-    import_here : (flags excluded : ℕ) (j : DeclarationSort) → FlagsAre j flags → (id : Node)
+    import_here : (flags excluded : ℕ) (j : DeclarationSort) → IsUnheaded j → FlagsAre j flags → (id : Node)
         → IsPair (declaration_at q.node (record { flags = flags; excluded = excluded; how = plain; route = here q.chain }) false id) (imported_as j s q.node q.path id)
-    import_here flags excluded j f id =
+    import_here flags excluded j u f id =
         let b : Bool = place.parent_holds (is kind.ExportDeclaration) q.path in
-        pair_here flags excluded false j b (global_besides (bound_container b cs)) f (beside (bound_container b cs)) id
+        pair_here flags excluded false j b (global_besides (bound_container b cs)) u f (beside (bound_container b cs)) id
 
     -- of a sort that isn't simple
     unsimple : (w : Declaration) (n : NamedDeclaration) → is_simple_sort n.sort ≡ false → told_to_tables w ≡ told_by_language n → IsPair w n
@@ -247,7 +257,7 @@ module _ (p : Tree) where
 
         by : (b : Bool) (id : Node) → IsPair (declaration_at q.node (if b then far else near) (is_pure_declarator q.node) id) (cond b (declared_outward sort.Var s q.node q.path) (declared_here sort.Lexical s q.node q.path) id)
         by true id = unsimple (declaration_at q.node far (is_pure_declarator q.node) id) (declared_outward sort.Var s q.node q.path id) refl refl
-        by false id = sort_here (union (lexical_flags declaration) (marked_ambient declaration)) symbol.BlockScopedVariableExcludes.bits (is_pure_declarator q.node) sort.Lexical (lexical_are let_text (has mark.Declare declaration)) id
+        by false id = sort_here (union (lexical_flags declaration) (marked_ambient declaration)) symbol.BlockScopedVariableExcludes.bits (is_pure_declarator q.node) sort.Lexical (no_namespace (is_unheaded q.node.kind)) (lexical_are let_text (has mark.Declare declaration)) id
 
     parameter_pairs : (path : List Node) → (path ≡ [] → ⊥) → AllPairs (parameters_under path q) (map (named_declaration sort.Parameter (bound_container false cs) []) (bound_names q.node))
     parameter_pairs [] e = absurd (e refl)
@@ -302,7 +312,7 @@ module _ (p : Tree) where
 
         near_or_far : (t : Bool) (id : Node) → IsPair (declaration_at q.node (row_by true false) pure id) (cond t far near id)
         near_or_far true id = unsimple (declaration_at q.node (row_by true false) pure id) (far id) refl refl
-        near_or_far false id = sort_here (flags_by true) (function_excluded q) pure sort.Function (function_are (has mark.Declare q.node) (is_special q.node)) id
+        near_or_far false id = sort_here (flags_by true) (function_excluded q) pure sort.Function (no_namespace (is_unheaded q.node.kind)) (function_are (has mark.Declare q.node) (is_special q.node)) id
 
         declared : (t : Bool) → t ≡ false → AllPairs (map (declaration_at q.node (row_by true t) pure) (ids q.node)) (map (cond (leaves_its_block s q.node q.path) far near) (ids q.node))
         declared true e = absurd (never e)
@@ -324,7 +334,7 @@ module _ (p : Tree) where
 
         go : (b : Bool) → AllPairs (cond b [] (map (declaration_at q.node (class_row q (own ∷ [])) false) (ids q.node)) ++ cond b (map (declaration_at q.node (class_row q q.chain) false) (ids q.node)) [])
             (map (cond b (declared_here sort.Class s q.node q.path) own_name) (ids q.node))
-        go true = map_pairs (declaration_at q.node (class_row q q.chain) false) (declared_here sort.Class s q.node q.path) (ids q.node) (λ id. sort_here (union symbol.Class.bits (marked_ambient q.node)) symbol.ClassExcludes.bits false sort.Class (class_are (has mark.Declare q.node)) id)
+        go true = map_pairs (declaration_at q.node (class_row q q.chain) false) (declared_here sort.Class s q.node q.path) (ids q.node) (λ id. sort_here (union symbol.Class.bits (marked_ambient q.node)) symbol.ClassExcludes.bits false sort.Class (no_namespace (is_unheaded q.node.kind)) (class_are (has mark.Declare q.node)) id)
         go false = map_pairs_last (declaration_at q.node (class_row q (own ∷ [])) false) own_name (ids q.node) (λ id. unsimple (declaration_at q.node (class_row q (own ∷ [])) false id) (own_name id) refl refl)
 
     mapped_pairs : Paired kind.TSMappedType
@@ -332,38 +342,38 @@ module _ (p : Tree) where
         let w : Node → Declaration = declaration_at q.node (type_parameter_row (here (own ∷ []))) false in
         map_pairs_last w (named_declaration sort.MappedKey (container_of container.TypeParameters q.node) []) (names_at role.Key q.node) (λ id. unsimple (w id) (named_declaration sort.MappedKey (container_of container.TypeParameters q.node) [] id) refl refl)
 
-    import_pairs : Paired kind.ImportSpecifier
-    import_pairs = go (has mark.TypeOnly q.node || place.parent_holds (has mark.TypeOnly) q.path)
+    import_pairs : is_unheaded q.node.kind ≡ true → Paired kind.ImportSpecifier
+    import_pairs u = go (has mark.TypeOnly q.node || place.parent_holds (has mark.TypeOnly) q.path)
       where
         row_by : Bool → BinderRow
         row_by b = record { flags = cond b symbol.TypeImport.bits symbol.Import.bits; excluded = symbol.ImportBindingExcludes.bits; how = plain; route = here q.chain }
 
         go : (b : Bool) → AllPairs (map (declaration_at q.node (row_by b) false) (names_at role.Local q.node)) (map (imported_as (cond b sort.TypeImport sort.Import) s q.node q.path) (names_at role.Local q.node))
         go true = map_pairs (declaration_at q.node (row_by true) false) (imported_as sort.TypeImport s q.node q.path) (names_at role.Local q.node) (λ id. unsimple (declaration_at q.node (row_by true) false id) (imported_as sort.TypeImport s q.node q.path id) refl refl)
-        go false = map_pairs (declaration_at q.node (row_by false) false) (imported_as sort.Import s q.node q.path) (names_at role.Local q.node) (import_here symbol.Import.bits symbol.ImportBindingExcludes.bits sort.Import import_are)
+        go false = map_pairs (declaration_at q.node (row_by false) false) (imported_as sort.Import s q.node q.path) (names_at role.Local q.node) (import_here symbol.Import.bits symbol.ImportBindingExcludes.bits sort.Import (λ i. u) import_are)
 
     -- all names of a row that is plain and here
-    here_pairs : (flags excluded : ℕ) (j : DeclarationSort) (names : List Node) → FlagsAre j flags → AllPairs (map (declaration_at q.node (record { flags = flags; excluded = excluded; how = plain; route = here q.chain }) false) names) (map (declared_here j s q.node q.path) names)
-    here_pairs flags excluded j names f = map_pairs (declaration_at q.node (record { flags = flags; excluded = excluded; how = plain; route = here q.chain }) false) (declared_here j s q.node q.path) names (sort_here flags excluded false j f)
+    here_pairs : (flags excluded : ℕ) (j : DeclarationSort) (names : List Node) → IsUnheaded j → FlagsAre j flags → AllPairs (map (declaration_at q.node (record { flags = flags; excluded = excluded; how = plain; route = here q.chain }) false) names) (map (declared_here j s q.node q.path) names)
+    here_pairs flags excluded j names u f = map_pairs (declaration_at q.node (record { flags = flags; excluded = excluded; how = plain; route = here q.chain }) false) (declared_here j s q.node q.path) names (sort_here flags excluded false j u f)
 
-    enum_pairs : Paired kind.TSEnumDeclaration
-    enum_pairs = go (has mark.Const q.node)
+    enum_pairs : is_unheaded q.node.kind ≡ true → Paired kind.TSEnumDeclaration
+    enum_pairs u = go (has mark.Const q.node)
       where
         go : (b : Bool) → AllPairs (if b then map (declaration_at q.node (record { flags = union symbol.ConstEnum.bits (marked_ambient q.node); excluded = symbol.ConstEnumExcludes.bits; how = plain; route = here q.chain }) false) (ids q.node)
             else map (declaration_at q.node (record { flags = union symbol.RegularEnum.bits (marked_ambient q.node); excluded = symbol.RegularEnumExcludes.bits; how = plain; route = here q.chain }) false) (ids q.node))
             (map (declared_here sort.Enum s q.node q.path) (ids q.node))
-        go true = here_pairs (union symbol.ConstEnum.bits (marked_ambient q.node)) symbol.ConstEnumExcludes.bits sort.Enum (ids q.node) (const_enum_are (has mark.Declare q.node))
-        go false = here_pairs (union symbol.RegularEnum.bits (marked_ambient q.node)) symbol.RegularEnumExcludes.bits sort.Enum (ids q.node) (enum_are (has mark.Declare q.node))
+        go true = here_pairs (union symbol.ConstEnum.bits (marked_ambient q.node)) symbol.ConstEnumExcludes.bits sort.Enum (ids q.node) (λ i. u) (const_enum_are (has mark.Declare q.node))
+        go false = here_pairs (union symbol.RegularEnum.bits (marked_ambient q.node)) symbol.RegularEnumExcludes.bits sort.Enum (ids q.node) (λ i. u) (enum_are (has mark.Declare q.node))
 
-    namespace_pairs : (i : InstanceState) → AllPairs (namespace_row i q) (map (declared_here (namespace_sort i) s q.node q.path) (ids q.node))
-    namespace_pairs non_instantiated = here_pairs (union symbol.NamespaceModule.bits (marked_ambient q.node)) symbol.NamespaceModuleExcludes.bits sort.TypeNamespace (ids q.node) (type_namespace_are (has mark.Declare q.node))
-    namespace_pairs const_enum_only = here_pairs (union symbol.ValueModule.bits (marked_ambient q.node)) symbol.ValueModuleExcludes.bits sort.ValueNamespace (ids q.node) (namespace_are (has mark.Declare q.node))
-    namespace_pairs instantiated = here_pairs (union symbol.ValueModule.bits (marked_ambient q.node)) symbol.ValueModuleExcludes.bits sort.ValueNamespace (ids q.node) (namespace_are (has mark.Declare q.node))
+    namespace_pairs : is_unheaded q.node.kind ≡ true → (i : InstanceState) → AllPairs (namespace_row i q) (map (declared_here (namespace_sort i) s q.node q.path) (ids q.node))
+    namespace_pairs u non_instantiated = here_pairs (union symbol.NamespaceModule.bits (marked_ambient q.node)) symbol.NamespaceModuleExcludes.bits sort.TypeNamespace (ids q.node) (λ i. u) (type_namespace_are (has mark.Declare q.node))
+    namespace_pairs u const_enum_only = here_pairs (union symbol.ValueModule.bits (marked_ambient q.node)) symbol.ValueModuleExcludes.bits sort.ValueNamespace (ids q.node) (λ i. u) (namespace_are (has mark.Declare q.node))
+    namespace_pairs u instantiated = here_pairs (union symbol.ValueModule.bits (marked_ambient q.node)) symbol.ValueModuleExcludes.bits sort.ValueNamespace (ids q.node) (λ i. u) (namespace_are (has mark.Declare q.node))
 
     member_pairs : Paired kind.TSEnumMember
     member_pairs =
         map_pairs (declaration_at q.node (record { flags = symbol.EnumMember.bits; excluded = symbol.EnumMemberExcludes.bits; how = plain; route = here q.chain }) false) (named_declaration sort.EnumMember (bound_container false cs) []) (flat_map (member_named q.node) (children_of role.Id q.node.children))
-        (pair_here symbol.EnumMember.bits symbol.EnumMemberExcludes.bits false sort.EnumMember false [] member_are nothing_else)
+        (pair_here symbol.EnumMember.bits symbol.EnumMemberExcludes.bits false sort.EnumMember false [] (no_namespace (is_unheaded q.node.kind)) member_are nothing_else)
 
     type_parameter_pairs : Paired kind.TSTypeParameter
     type_parameter_pairs = go (place.parent_holds (is kind.TSInferType) q.path)
@@ -379,7 +389,7 @@ module _ (p : Tree) where
 
         go : (b : Bool) → AllPairs (map (declaration_at q.node (row_by b) false) (names_at role.Name q.node)) (map (cond b inferred parameter) (names_at role.Name q.node))
         go true = map_pairs (declaration_at q.node (row_by true) false) inferred (names_at role.Name q.node) (λ id. unsimple (declaration_at q.node (row_by true) false id) (inferred id) refl refl)
-        go false = map_pairs (declaration_at q.node (row_by false) false) parameter (names_at role.Name q.node) (pair_here symbol.TypeParameter.bits symbol.TypeParameterExcludes.bits false sort.TypeParameter false [] parameter_are nothing_else)
+        go false = map_pairs (declaration_at q.node (row_by false) false) parameter (names_at role.Name q.node) (pair_here symbol.TypeParameter.bits symbol.TypeParameterExcludes.bits false sort.TypeParameter false [] (no_namespace (is_unheaded q.node.kind)) parameter_are nothing_else)
 
     no_rest_pairs : (b : Bool) (ws : List Declaration) → b ≡ false → AllPairs (cond b ws []) []
     no_rest_pairs true ws e = absurd (never e)
@@ -396,16 +406,16 @@ module _ (p : Tree) where
     pairs_by kind.FormalParameterRest e i r u = parameter_pairs q.path (not_root kind.FormalParameterRest e (λ z. absurd cc) u)
     pairs_by kind.BindingRestElement e i r u = no_rest_pairs (place.parent_holds (is kind.FormalParameters) q.path) _ (rw e at r)
     pairs_by kind.CatchParameter e i r u = catch_pairs (children_of role.Pattern q.node.children)
-    pairs_by kind.ImportSpecifier e i r u = import_pairs
-    pairs_by kind.ImportDefaultSpecifier e i r u = import_pairs
-    pairs_by kind.ImportNamespaceSpecifier e i r u = import_pairs
+    pairs_by kind.ImportSpecifier e i r u = import_pairs (ap is_unheaded e)
+    pairs_by kind.ImportDefaultSpecifier e i r u = import_pairs (ap is_unheaded e)
+    pairs_by kind.ImportNamespaceSpecifier e i r u = import_pairs (ap is_unheaded e)
     pairs_by kind.TSImportEqualsDeclaration e i r u =
-        map_pairs (declaration_at q.node (record { flags = symbol.Import.bits; excluded = symbol.ImportBindingExcludes.bits; how = plain; route = here q.chain }) false) (imported_as sort.Import s q.node q.path) (ids q.node) (import_here symbol.Import.bits symbol.ImportBindingExcludes.bits sort.Import import_are)
-    pairs_by kind.TSTypeAliasDeclaration e i r u = here_pairs (union symbol.TypeAlias.bits (marked_ambient q.node)) symbol.TypeAliasExcludes.bits sort.TypeAlias (ids q.node) (alias_are (has mark.Declare q.node))
-    pairs_by kind.TSInterfaceDeclaration e i r u = here_pairs (union symbol.Interface.bits (marked_ambient q.node)) symbol.InterfaceExcludes.bits sort.Interface (ids q.node) (interface_are (has mark.Declare q.node))
-    pairs_by kind.TSEnumDeclaration e i r u = enum_pairs
+        map_pairs (declaration_at q.node (record { flags = symbol.Import.bits; excluded = symbol.ImportBindingExcludes.bits; how = plain; route = here q.chain }) false) (imported_as sort.Import s q.node q.path) (ids q.node) (import_here symbol.Import.bits symbol.ImportBindingExcludes.bits sort.Import (λ j. ap is_unheaded e) import_are)
+    pairs_by kind.TSTypeAliasDeclaration e i r u = here_pairs (union symbol.TypeAlias.bits (marked_ambient q.node)) symbol.TypeAliasExcludes.bits sort.TypeAlias (ids q.node) (no_namespace (is_unheaded q.node.kind)) (alias_are (has mark.Declare q.node))
+    pairs_by kind.TSInterfaceDeclaration e i r u = here_pairs (union symbol.Interface.bits (marked_ambient q.node)) symbol.InterfaceExcludes.bits sort.Interface (ids q.node) (no_namespace (is_unheaded q.node.kind)) (interface_are (has mark.Declare q.node))
+    pairs_by kind.TSEnumDeclaration e i r u = enum_pairs (ap is_unheaded e)
     pairs_by kind.TSEnumMember e i r u = member_pairs
-    pairs_by kind.TSNamespaceDeclaration e i r u = namespace_pairs (instance_state q.node q.path (nodes_around q.node q.path))
+    pairs_by kind.TSNamespaceDeclaration e i r u = namespace_pairs (ap is_unheaded e) (instance_state q.node q.path (nodes_around q.node q.path))
     pairs_by kind.TSTypeParameter e i r u = type_parameter_pairs
     pairs_by kind.TSMappedType e i r u = mapped_pairs
     pairs_by kind.TSIndexSignatureName e i r u = absurd cc

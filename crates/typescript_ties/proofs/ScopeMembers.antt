@@ -160,14 +160,6 @@ module _ (p : Tree) (h : first_fault p ≡ None) (common : is_common p ≡ true)
         not_headed false f i j = refl
         not_headed true f i j = absurd (never (sym (f refl) ∙ (λ t. i t || j t)))
 
-    -- in a header the container is one of type parameters
-    pub in_header_types : s.in_header ≡ true → (d : Container) → Among d group → is_apart d.kind ≡ false → is_container container.TypeParameters d ≡ true
-    in_header_types i d b free = (member node d b).header free (λ f. or_true_of (is_in_header q.node.kind r) (is_of_signature node) (header_is f) (sym header ∙ i)) (header_kinds q.node.kind r (sym header ∙ i))
-      where
-        or_true_of : (u v : Bool) → same_truth u v ≡ true → u ≡ true → v ≡ true
-        or_true_of true v i j = i
-        or_true_of false v i j = absurd (never (sym j))
-
     -- a declaration that a container of the child has is seen
     pub record SeenToo (n : NamedDeclaration) : Type 0 where
       pub made : Made

@@ -1,9 +1,7 @@
 -- What is tried of a name holds of it.
-use Rattle.std.proofs.Common.{◌≡◌, ◌==◌, List, [], ◌∷◌, Bool, true, false, ◌&&◌, ◌||◌, not, sym, ap, subst, ◌∙◌, inl, inr, bytes_eq}
+use Rattle.std.proofs.Common.{◌≡◌, List, [], ◌∷◌, Bool, true, false, ◌&&◌, ◌||◌, not, sym, subst, inl, inr, bytes_eq}
 use Rattle.std.specs.List.{list_all}
 use Rattle.std.proofs.lemmas.Bool.{and_from}
-use Rattle.std.proofs.lemmas.Bool.Decides.{eqb_tells}
-use denote.Enum.Bare.{same_true}
 use Rattle.semantic_syntax.proofs.Truth.{and_first, and_second}
 use Rattle.semantic_kinds.specs.declared.kind.AstType.TheVariants as kind
 use Rattle.semantic_syntax.specs.Tables.{Name}
@@ -14,15 +12,9 @@ use Rattle.semantic_model.specs.Entries.{Among}
 use Rattle.semantic_model.specs.Step.{entering, steps}
 use Rattle.semantic_model.proofs.once.ListedUnder.{name_tells}
 use Rattle.typescript_ties.specs.AskedMeanings.{asked_by_reference}
-use Rattle.typescript_ties.specs.Containers.{Container, same_container_kind, is_container, same_container}
-use Rattle.typescript_ties.specs.NamedDeclarations.{NamedDeclaration, is_sort, named_in}
+use Rattle.typescript_ties.specs.NamedDeclarations.{named_in}
 use Rattle.typescript_ties.specs.SimpleNames.{is_simple, is_way_of, IsSimpleName}
-use Rattle.typescript_ties.specs.TriedNames.{containers_at, all_containers, is_declared_simply, asks_at, is_simple_name}
-use Rattle.typescript_ties.specs.contracts.declaration_sort.DeclarationSort.{the_type as the_sorts}
-use Rattle.typescript_ties.specs.declared.container_kind.ContainerKind.TheVariants as container
-use Rattle.typescript_ties.specs.declared.declaration_sort.DeclarationSort.TheVariants as sort
-use Rattle.typescript_ties.proofs.ScopeMembers.{kind_self}
-use Rattle.typescript_ties.proofs.SimpleDeclarations.{flat_among}
+use Rattle.typescript_ties.specs.TriedNames.{asks_at, is_simple_name}
 
 never : true ≡ false → ⊥
 never h = absurd cc
@@ -37,31 +29,16 @@ implied true b h e = h
 implied false b h e = absurd (never (sym e))
 
 module _ (p : Tree) (x : Name) (tried : is_simple_name p x ≡ true) where
-  abbrev cs : List Container
-  cs = all_containers p
+  all_simple : list_all (λ z. not (bytes_eq z.name x) || is_simple z) (named_in p) ≡ true
+  all_simple = and_first (list_all (λ z. not (bytes_eq z.name x) || is_simple z) (named_in p)) (list_all (asks_at x) (steps p)) tried
 
-  declared : (d : NamedDeclaration) → Among d (named_in p) → d.name ≡ x → is_declared_simply cs d ≡ true
-  declared d a e =
-      implied (bytes_eq d.name x) (is_declared_simply cs d)
-      (all_among (λ z. not (bytes_eq z.name x) || is_declared_simply cs z) (named_in p) d (and_first (list_all (λ z. not (bytes_eq z.name x) || is_declared_simply cs z) (named_in p)) (list_all (asks_at x) (steps p)) tried) a)
-      (elim (name_tells d.name x) [ inl i ↦ i.0 | inr i ↦ absurd (i.1 e) ])
-
-  abbrev typed : NamedDeclaration → Bool
-  typed d = not (is_container container.TypeParameters d.container) || is_sort sort.TypeParameter d
-
-  abbrev alone : NamedDeclaration → Bool
-  alone d = not (is_container container.EnumMembers d.container) || list_all (λ c. not (same_container d.container c) || d.container.node == c.node) cs
+  all_ask : list_all (asks_at x) (steps p) ≡ true
+  all_ask = and_second (list_all (λ z. not (bytes_eq z.name x) || is_simple z) (named_in p)) (list_all (asks_at x) (steps p)) tried
 
   pub simple_name : IsSimpleName p x
   simple_name = record {
-    simply = λ d a e. and_first (is_simple d) (typed d) (and_first (is_simple d && typed d) (alone d) (declared d a e));
-    enums = λ d a e i q entered c there same. (
-        let all : list_all (λ z. not (same_container d.container z) || d.container.node == z.node) cs ≡ true =
-        implied (is_container container.EnumMembers d.container) (list_all (λ z. not (same_container d.container z) || d.container.node == z.node) cs) (and_second (is_simple d && typed d) (alone d) (declared d a e)) (ap (λ k. same_container_kind k container.EnumMembers) i ∙ kind_self container.EnumMembers) in
-        let one : (d.container.node == c.node) ≡ true = implied (same_container d.container c) (d.container.node == c.node) (all_among (λ z. not (same_container d.container z) || d.container.node == z.node) cs c all (flat_among (containers_at p.source_type) (steps p) (entering q) c entered there)) same in
-        elim (eqb_tells d.container.node c.node) [ inl j ↦ j.1 | inr j ↦ absurd (never (sym one ∙ j.0)) ]);
-    types = λ d a e i. same_true the_sorts tt d.sort sort.TypeParameter (implied (is_container container.TypeParameters d.container) (is_sort sort.TypeParameter d) (and_second (is_simple d) (typed d) (and_first (is_simple d && typed d) (alone d) (declared d a e))) i);
+    simply = λ d a e. implied (bytes_eq d.name x) (is_simple d) (all_among (λ z. not (bytes_eq z.name x) || is_simple z) (named_in p) d all_simple a) (elim (name_tells d.name x) [ inl i ↦ i.0 | inr i ↦ absurd (i.1 e) ]);
     ways = λ q entered refers is_x. implied (is kind.IdentifierReference q.node && bytes_eq q.node.text x) (is_way_of (asked_by_reference q.path) (way_or_read q.cursor))
-        (all_among (asks_at x) (steps p) (entering q) (and_second (list_all (λ z. not (bytes_eq z.name x) || is_declared_simply cs z) (named_in p)) (list_all (asks_at x) (steps p)) tried) entered)
+        (all_among (asks_at x) (steps p) (entering q) all_ask entered)
         (and_from (is kind.IdentifierReference q.node) (bytes_eq q.node.text x) refers (elim (name_tells q.node.text x) [ inl i ↦ i.0 | inr i ↦ absurd (i.1 is_x) ]));
   }

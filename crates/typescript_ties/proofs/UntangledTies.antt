@@ -280,7 +280,7 @@ module _ (p : Tree) (h : first_fault p ≡ None) (common : is_common p ≡ true)
   unmerged = holds_not reason.MergedMember (inr (inr (inr (inr (inr (inr (inl refl)))))))
 
   alone_members : HasOwnMembers p x
-  alone_members = own_members p h common typed numbered x name.simply name.enums unmerged
+  alone_members = own_members p h common typed numbered x name.simply unmerged
 
   plain : PlainState x (run start (events (steps p)))
   plain = in_end p h x (is_plain p h common typed numbered x name.simply)
@@ -297,7 +297,7 @@ module _ (p : Tree) (h : first_fault p ≡ None) (common : is_common p ≡ true)
     abbrev w : ℕ
     w = way_or_read q.cursor
 
-    tied_is : referred.entry.symbol_id ≡ looked_up p h common typed numbered x no_arguments name.simply alone_members name.types w q.chain
+    tied_is : referred.entry.symbol_id ≡ looked_up p h common typed numbered x no_arguments name.simply alone_members w q.chain
     tied_is = tied_together p h x (is_plain p h common typed numbered x name.simply) referred.number (reference_at q) referred.entry referred.reference referred.row is_x
 
     -- it isn't free
@@ -310,7 +310,7 @@ module _ (p : Tree) (h : first_fault p ≡ None) (common : is_common p ≡ true)
         absurd (omega (arith, zero_is))
 
     -- nor is a namespace passed that is no type
-    module _ (m : IsMissed p h common typed numbered x no_arguments name.simply alone_members name.types w) where
+    module _ (m : IsMissed p h common typed numbered x no_arguments name.simply alone_members w) where
       m_named : m.made.declaration.naming.name ≡ x
       m_named = elim (name_tells m.made.declaration.naming.name x) [ inl j ↦ j.1 | inr j ↦ absurd (never (sym (and_second (m.made.declaration.route.target.number == m.scope) (bytes_eq m.made.declaration.naming.name x) m.in_it) ∙ j.0)) ]
 
@@ -379,7 +379,7 @@ module _ (p : Tree) (h : first_fault p ≡ None) (common : is_common p ≡ true)
           in_scope = subst (λ d. is_in_scope d x y ≡ true) (plain.apart c m.scope m.number bound_own bound_there) in_own
 
       -- the look-up doesn't find its symbol
-      never_that : looked_up p h common typed numbered x no_arguments name.simply alone_members name.types w q.chain ≡ Some m.number → ⊥
+      never_that : looked_up p h common typed numbered x no_arguments name.simply alone_members w q.chain ≡ Some m.number → ⊥
       never_that e =
           let found : IsFoundAt p x w m.number = found_at p x w no_arguments m.number q.chain e in
           let more : (mask : ℕ) → meets found.flags mask ≡ true → meets m.flags mask ≡ true = λ mask i. from_scope found.scope (bound_from (filter (is_seen_from found.scope x) (made_of p)) m.number found.flags mask found.bound i) in
@@ -402,22 +402,22 @@ module _ (p : Tree) (h : first_fault p ≡ None) (common : is_common p ≡ true)
               let same : y ≡ m.number = two_share (tables_of p).symbols y m.number other.symbol missed_symbol.symbol x other.is_there missed_symbol.is_there other.named missed_symbol.named alone in
               never_that (sym tied_is ∙ e ∙ ap Some same)
 
-    tied_to_all : (ids : List ℕ) (y : ℕ) → AllHave p h common typed numbered x no_arguments name.simply alone_members name.types ids y → list_all (λ i. is_that_symbol y (symbol_at (analysis_of p) i)) ids ≡ true
+    tied_to_all : (ids : List ℕ) (y : ℕ) → AllHave p h common typed numbered x no_arguments name.simply alone_members ids y → list_all (λ i. is_that_symbol y (symbol_at (analysis_of p) i)) ids ≡ true
     tied_to_all [] y k = refl
     tied_to_all (i ∷ ids) y k =
         let one : is_that_symbol y (symbol_at (analysis_of p) i) ≡ true = ap (is_that_symbol y) k.0 ∙ eq-eqb y y refl in
         rw one (tied_to_all ids y k.1)
 
-    agrees_so : (o : Option ℕ) (r : Resolved) → referred.entry.symbol_id ≡ o → Agrees p h common typed numbered x no_arguments name.simply alone_members name.types o r → is_tied_as_resolved (analysis_of p) q.node.node_id r ≡ true
+    agrees_so : (o : Option ℕ) (r : Resolved) → referred.entry.symbol_id ≡ o → Agrees p h common typed numbered x no_arguments name.simply alone_members o r → is_tied_as_resolved (analysis_of p) q.node.node_id r ≡ true
     agrees_so o nowhere e a = ap is_untied (referred.tied ∙ e ∙ a)
     agrees_so o (declared_in c ids) e a = ap (is_tied_to_each (analysis_of p) ids) (referred.tied ∙ e ∙ a.1) ∙ tied_to_all ids a.0 a.2
 
     pub use_agrees : is_use_tied (analysis_of p) (named_in p) (name_use p.source_type q) ≡ true
     use_agrees =
-        let agree : AgreesRound p h common typed numbered x no_arguments name.simply alone_members name.types q = each_among (AgreedStep p h common typed numbered x no_arguments name.simply alone_members name.types) (steps p) (entering q) (agreed_places p h common typed numbered x no_arguments name.simply alone_members name.types) entered in
-        let matches : Matches p h common typed numbered x no_arguments name.simply alone_members name.types w (looked_up p h common typed numbered x no_arguments name.simply alone_members name.types w q.chain) (resolve (named_in p) (round_place p q) (asked_by_reference q.path) x) = agree (asked_by_reference q.path) w (name.ways q entered refers is_x) in
+        let agree : AgreesRound p h common typed numbered x no_arguments name.simply alone_members q = each_among (AgreedStep p h common typed numbered x no_arguments name.simply alone_members) (steps p) (entering q) (agreed_places p h common typed numbered x no_arguments name.simply alone_members) entered in
+        let matches : Matches p h common typed numbered x no_arguments name.simply alone_members w (looked_up p h common typed numbered x no_arguments name.simply alone_members w q.chain) (resolve (named_in p) (round_place p q) (asked_by_reference q.path) x) = agree (asked_by_reference q.path) w (name.ways q entered refers is_x) in
         let there : is_tied_as_resolved (analysis_of p) q.node.node_id (resolve (named_in p) (round_place p q) (asked_by_reference q.path) x) ≡ true = elim matches [
-          | inl a ↦ agrees_so (looked_up p h common typed numbered x no_arguments name.simply alone_members name.types w q.chain) (resolve (named_in p) (round_place p q) (asked_by_reference q.path) x) tied_is a
+          | inl a ↦ agrees_so (looked_up p h common typed numbered x no_arguments name.simply alone_members w q.chain) (resolve (named_in p) (round_place p q) (asked_by_reference q.path) x) tied_is a
           | inr b ↦ elim b [
             | inl m ↦ absurd (never_missed m)
             | inr f ↦ absurd (never_free (tied_is ∙ f.free))

@@ -18,7 +18,7 @@ use Rattle.semantic_model.specs.Inside.{is_parameter_decorator}
 use Rattle.semantic_model.specs.Place.{Place}
 use Rattle.semantic_model.specs.Step.{entering, steps}
 use Rattle.typescript_ties.specs.AskedMeanings.{asked_by_reference}
-use Rattle.typescript_ties.specs.Containers.{Container, is_container, same_container, containers}
+use Rattle.typescript_ties.specs.Containers.{Container, same_container, containers}
 use Rattle.typescript_ties.specs.MeaningSets.{MeaningSet}
 use Rattle.typescript_ties.specs.NamedDeclarations.{NamedDeclaration, named_in}
 use Rattle.typescript_ties.specs.declared.container_kind.ContainerKind.{ContainerKind}
@@ -72,7 +72,7 @@ is_simple d = is_simple_sort d.sort && not (is_apart d.container.kind)
 abbrev pub IsSimplyDeclared : Tree → Name → Type 0
 IsSimplyDeclared p x = (d : NamedDeclaration) → Among d (named_in p) → d.name ≡ x → is_simple d ≡ true
 
--- where it is a member, no other block shares the members; of a name that is not tangled this follows, but for enums
+-- where it is a member, no other block shares the members; of a name that is not tangled this follows
 abbrev pub HasOwnMembers : Tree → Name → Type 0
 HasOwnMembers p x =
     (d : NamedDeclaration) → Among d (named_in p) → d.name ≡ x → (q : Place) → Among (entering q) (steps p) → (c : Container) → Among c (containers p.source_type q.node q.path)
@@ -95,19 +95,7 @@ abbrev pub AsksItsWays : Tree → Name → Type 0
 AsksItsWays p x =
     (q : Place) → Among (entering q) (steps p) → is kind.IdentifierReference q.node ≡ true → q.node.text ≡ x → is_way_of (asked_by_reference q.path) (way_or_read q.cursor) ≡ true
 
--- and so it is of enums
-abbrev pub HasOwnEnums : Tree → Name → Type 0
-HasOwnEnums p x =
-    (d : NamedDeclaration) → Among d (named_in p) → d.name ≡ x → d.container.kind ≡ container.EnumMembers → (q : Place) → Among (entering q) (steps p) → (c : Container) → Among c (containers p.source_type q.node q.path)
-    → same_container d.container c ≡ true → d.container.node ≡ c.node
-
--- where type parameters are declared, the name is one
-abbrev pub StandsWithTypes : Tree → Name → Type 0
-StandsWithTypes p x = (d : NamedDeclaration) → Among d (named_in p) → d.name ≡ x → is_container container.TypeParameters d.container ≡ true → d.sort ≡ sort.TypeParameter
-
--- all of that
+-- both
 pub record IsSimpleName (p : Tree) (x : Name) : Type 0 where
   pub simply : IsSimplyDeclared p x
-  pub enums : HasOwnEnums p x
-  pub types : StandsWithTypes p x
   pub ways : AsksItsWays p x
