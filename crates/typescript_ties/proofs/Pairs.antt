@@ -48,8 +48,7 @@ container_kind_is a b h = same_true the_container_kinds tt a b h
 
 -- the flags of a sort
 pub record FlagsAre (k : DeclarationSort) (flags : ℕ) : Type 0 where
-  pub value : meets flags symbol.ByValue.bits ≡ (sort_meanings k).value
-  pub as_type : meets flags symbol.ByValueAsType.bits ≡ (sort_meanings k).value
+  pub value : meets flags symbol.ByValueAsType.bits ≡ (sort_meanings k).value
   pub is_type : meets flags symbol.ByType.bits ≡ (sort_meanings k).is_type
   pub namespace : meets flags symbol.AsNamespace.bits ≡ (sort_meanings k).namespace
   pub no_own : meets flags symbol.FunctionExpression.bits ≡ false
@@ -190,53 +189,56 @@ module _ (p : Tree) where
     Paired j = AllPairs (declared_inside j q own ++ declared_by j q) (named_by_node j s q.node q.path)
 
     lexical_are : (t a : Bool) → FlagsAre sort.Lexical (union (cond t symbol.BlockScopedVariable.bits (union symbol.BlockScopedVariable.bits symbol.ConstVariable.bits)) (ambient_if a))
-    lexical_are true true = record { value = refl; as_type = refl; is_type = refl; namespace = refl; no_own = refl }
-    lexical_are true false = record { value = refl; as_type = refl; is_type = refl; namespace = refl; no_own = refl }
-    lexical_are false true = record { value = refl; as_type = refl; is_type = refl; namespace = refl; no_own = refl }
-    lexical_are false false = record { value = refl; as_type = refl; is_type = refl; namespace = refl; no_own = refl }
+    lexical_are true true = record { value = refl; is_type = refl; namespace = refl; no_own = refl }
+    lexical_are true false = record { value = refl; is_type = refl; namespace = refl; no_own = refl }
+    lexical_are false true = record { value = refl; is_type = refl; namespace = refl; no_own = refl }
+    lexical_are false false = record { value = refl; is_type = refl; namespace = refl; no_own = refl }
 
     function_are : (a t : Bool) → FlagsAre sort.Function (union (union symbol.Function.bits (ambient_if a)) (union 0 (cond t symbol.AsyncOrGeneratorFunction.bits 0)))
-    function_are true true = record { value = refl; as_type = refl; is_type = refl; namespace = refl; no_own = refl }
-    function_are true false = record { value = refl; as_type = refl; is_type = refl; namespace = refl; no_own = refl }
-    function_are false true = record { value = refl; as_type = refl; is_type = refl; namespace = refl; no_own = refl }
-    function_are false false = record { value = refl; as_type = refl; is_type = refl; namespace = refl; no_own = refl }
+    function_are true true = record { value = refl; is_type = refl; namespace = refl; no_own = refl }
+    function_are true false = record { value = refl; is_type = refl; namespace = refl; no_own = refl }
+    function_are false true = record { value = refl; is_type = refl; namespace = refl; no_own = refl }
+    function_are false false = record { value = refl; is_type = refl; namespace = refl; no_own = refl }
 
     class_are : (a : Bool) → FlagsAre sort.Class (union symbol.Class.bits (ambient_if a))
-    class_are true = record { value = refl; as_type = refl; is_type = refl; namespace = refl; no_own = refl }
-    class_are false = record { value = refl; as_type = refl; is_type = refl; namespace = refl; no_own = refl }
+    class_are true = record { value = refl; is_type = refl; namespace = refl; no_own = refl }
+    class_are false = record { value = refl; is_type = refl; namespace = refl; no_own = refl }
 
     alias_are : (a : Bool) → FlagsAre sort.TypeAlias (union symbol.TypeAlias.bits (ambient_if a))
-    alias_are true = record { value = refl; as_type = refl; is_type = refl; namespace = refl; no_own = refl }
-    alias_are false = record { value = refl; as_type = refl; is_type = refl; namespace = refl; no_own = refl }
+    alias_are true = record { value = refl; is_type = refl; namespace = refl; no_own = refl }
+    alias_are false = record { value = refl; is_type = refl; namespace = refl; no_own = refl }
 
     interface_are : (a : Bool) → FlagsAre sort.Interface (union symbol.Interface.bits (ambient_if a))
-    interface_are true = record { value = refl; as_type = refl; is_type = refl; namespace = refl; no_own = refl }
-    interface_are false = record { value = refl; as_type = refl; is_type = refl; namespace = refl; no_own = refl }
+    interface_are true = record { value = refl; is_type = refl; namespace = refl; no_own = refl }
+    interface_are false = record { value = refl; is_type = refl; namespace = refl; no_own = refl }
 
     const_enum_are : (a : Bool) → FlagsAre sort.Enum (union symbol.ConstEnum.bits (ambient_if a))
-    const_enum_are true = record { value = refl; as_type = refl; is_type = refl; namespace = refl; no_own = refl }
-    const_enum_are false = record { value = refl; as_type = refl; is_type = refl; namespace = refl; no_own = refl }
+    const_enum_are true = record { value = refl; is_type = refl; namespace = refl; no_own = refl }
+    const_enum_are false = record { value = refl; is_type = refl; namespace = refl; no_own = refl }
 
     enum_are : (a : Bool) → FlagsAre sort.Enum (union symbol.RegularEnum.bits (ambient_if a))
-    enum_are true = record { value = refl; as_type = refl; is_type = refl; namespace = refl; no_own = refl }
-    enum_are false = record { value = refl; as_type = refl; is_type = refl; namespace = refl; no_own = refl }
+    enum_are true = record { value = refl; is_type = refl; namespace = refl; no_own = refl }
+    enum_are false = record { value = refl; is_type = refl; namespace = refl; no_own = refl }
 
     type_namespace_are : (a : Bool) → FlagsAre sort.TypeNamespace (union symbol.NamespaceModule.bits (ambient_if a))
-    type_namespace_are true = record { value = refl; as_type = refl; is_type = refl; namespace = refl; no_own = refl }
-    type_namespace_are false = record { value = refl; as_type = refl; is_type = refl; namespace = refl; no_own = refl }
+    type_namespace_are true = record { value = refl; is_type = refl; namespace = refl; no_own = refl }
+    type_namespace_are false = record { value = refl; is_type = refl; namespace = refl; no_own = refl }
 
     namespace_are : (a : Bool) → FlagsAre sort.ValueNamespace (union symbol.ValueModule.bits (ambient_if a))
-    namespace_are true = record { value = refl; as_type = refl; is_type = refl; namespace = refl; no_own = refl }
-    namespace_are false = record { value = refl; as_type = refl; is_type = refl; namespace = refl; no_own = refl }
+    namespace_are true = record { value = refl; is_type = refl; namespace = refl; no_own = refl }
+    namespace_are false = record { value = refl; is_type = refl; namespace = refl; no_own = refl }
 
     import_are : FlagsAre sort.Import symbol.Import.bits
-    import_are = record { value = refl; as_type = refl; is_type = refl; namespace = refl; no_own = refl }
+    import_are = record { value = refl; is_type = refl; namespace = refl; no_own = refl }
+
+    type_import_are : FlagsAre sort.TypeImport symbol.TypeImport.bits
+    type_import_are = record { value = refl; is_type = refl; namespace = refl; no_own = refl }
 
     member_are : FlagsAre sort.EnumMember symbol.EnumMember.bits
-    member_are = record { value = refl; as_type = refl; is_type = refl; namespace = refl; no_own = refl }
+    member_are = record { value = refl; is_type = refl; namespace = refl; no_own = refl }
 
     parameter_are : FlagsAre sort.TypeParameter symbol.TypeParameter.bits
-    parameter_are = record { value = refl; as_type = refl; is_type = refl; namespace = refl; no_own = refl }
+    parameter_are = record { value = refl; is_type = refl; namespace = refl; no_own = refl }
 
     variable_pairs : (path : List Node) → q.path ≡ path → AllPairs (variables_under path q) (variables_named s q.node path)
     variable_pairs [] e = tt
@@ -349,7 +351,7 @@ module _ (p : Tree) where
         row_by b = record { flags = cond b symbol.TypeImport.bits symbol.Import.bits; excluded = symbol.ImportBindingExcludes.bits; how = plain; route = here q.chain }
 
         go : (b : Bool) → AllPairs (map (declaration_at q.node (row_by b) false) (names_at role.Local q.node)) (map (imported_as (cond b sort.TypeImport sort.Import) s q.node q.path) (names_at role.Local q.node))
-        go true = map_pairs (declaration_at q.node (row_by true) false) (imported_as sort.TypeImport s q.node q.path) (names_at role.Local q.node) (λ id. unsimple (declaration_at q.node (row_by true) false id) (imported_as sort.TypeImport s q.node q.path id) refl refl)
+        go true = map_pairs (declaration_at q.node (row_by true) false) (imported_as sort.TypeImport s q.node q.path) (names_at role.Local q.node) (import_here symbol.TypeImport.bits symbol.ImportBindingExcludes.bits sort.TypeImport (λ i. u) type_import_are)
         go false = map_pairs (declaration_at q.node (row_by false) false) (imported_as sort.Import s q.node q.path) (names_at role.Local q.node) (import_here symbol.Import.bits symbol.ImportBindingExcludes.bits sort.Import (λ i. u) import_are)
 
     -- all names of a row that is plain and here

@@ -6,7 +6,6 @@ use Rattle.std.specs.Option.{is_some}
 use Rattle.std.specs.Prelude.{slice_get}
 use Rattle.std.proofs.lemmas.Bool.{cases_Bool, and_from, eq-eqb}
 use Rattle.std.proofs.lemmas.Bool.Decides.{eqb_tells}
-use Rattle.std.proofs.lemmas.Nat.{and_comm}
 use Rattle.semantic_syntax.proofs.Truth.{and_first, and_second, and_false}
 use Rattle.semantic_kinds.specs.declared.kind.AstType.TheVariants as kind
 use Rattle.semantic_syntax.specs.Lookup.{Seen, is_arguments, lookup}
@@ -33,7 +32,10 @@ use Rattle.semantic_model.specs.Reference.{reference_at}
 use Rattle.semantic_model.specs.Step.{Step, entering, opening, header_ending, closing, leaving, steps}
 use Rattle.semantic_model.specs.TablesOf.{tables_of, made_of}
 use Rattle.semantic_model.specs.Tie.{seen_as, symbol_by}
+use Rattle.semantic_model.proofs.bindings.Owned.{kept_program}
+use Rattle.semantic_model.proofs.bindings.Owners.{IsSymbolOf}
 use Rattle.semantic_model.proofs.form.Shape.{has_form}
+use Rattle.semantic_model.proofs.lists.BindingLaws.{get_among}
 use Rattle.semantic_model.proofs.lists.Members.{among_at}
 use Rattle.semantic_model.proofs.once.ListedUnder.{name_tells}
 use Rattle.semantic_model.proofs.once.ReferencesStand.{stand_once}
@@ -41,7 +43,7 @@ use Rattle.program_laws.specs.SymbolNames.{IsNamed}
 use Rattle.program_laws.proofs.TiedNames.{ties_have_names, declarations_have_names}
 use Rattle.binding_laws.specs.SeenDeclarations.{seen_alone, with_declaration, bound_by_all, is_before_body, stands_before_body}
 use Rattle.tangle_model.specs.Mention.{mentions}
-use Rattle.tangle_model.specs.Tangled.{is_inner_alias, may_be_passed, is_merged_member, is_name_of, is_shared, any_symbol, holds_in, all_reasons, tangle_reasons}
+use Rattle.tangle_model.specs.Tangled.{is_bare_namespace, is_inner_alias, may_be_passed, is_merged_member, is_name_of, is_shared, any_symbol, holds_in, all_reasons, tangle_reasons}
 use Rattle.tangle_model.specs.declared.reason.Reason.{Reason}
 use Rattle.tangle_model.specs.declared.reason.Reason.TheVariants as reason
 use Rattle.typescript_ties.specs.AskedMeanings.{asked_by_reference}
@@ -51,7 +53,7 @@ use Rattle.typescript_ties.specs.ResolvedTies.{is_that_symbol, is_untied, is_tie
 use Rattle.typescript_ties.specs.SeenTogether.{is_in_scope, is_seen_from, bound_together, asked_together}
 use Rattle.typescript_ties.specs.SimpleNames.{is_common, HasOwnMembers, IsSimpleName}
 use Rattle.typescript_ties.proofs.AgreedPlaces.{Agrees, AllHave, IsMissed, Matches, AgreesRound, AgreedStep, looked_up, agreed_places, among_filter, filter_among, any_there}
-use Rattle.typescript_ties.proofs.FitsTogether.{meets_union, AreBoundAs, bound_as_one}
+use Rattle.typescript_ties.proofs.FitsTogether.{meets_union, meets_mask, AreBoundAs, bound_as_one}
 use Rattle.typescript_ties.proofs.HeadPlaces.{round_place}
 use Rattle.typescript_ties.proofs.OwnMembers.{own_members}
 use Rattle.typescript_ties.proofs.PlainFold.{PlainState}
@@ -116,12 +118,6 @@ no_entry (f ∷ fs) x h = by (bytes_eq x f.0) refl h (no_entry fs x)
         ]
 
 -- ---- flags
-
-meets_swapped : (f m : ℕ) → meets f m ≡ meets m f
-meets_swapped f m = ap (λ n. not (n == 0)) (and_comm f m)
-
-meets_mask : (f a b : ℕ) → meets f (union a b) ≡ (meets f a || meets f b)
-meets_mask f a b = meets_swapped f (union a b) ∙ meets_union a b f ∙ (λ i. meets_swapped a f i || meets_swapped b f i)
 
 or_both : (a b : Bool) → (a || b) ≡ false → (a ≡ false) × (b ≡ false)
 or_both true b h = absurd (never h)
@@ -336,8 +332,26 @@ module _ (p : Tree) (h : first_fault p ≡ None) (common : is_common p ≡ true)
       missed_flags : missed_symbol.symbol.flags.bits ≡ m.flags
       missed_flags = ap flags_or_none (sym missed_symbol.is_there) ∙ flags_there
 
+      -- the scope of the symbol is the one that binds it
+      scope_there : missed_symbol.symbol.scope ≡ m.scope
+      scope_there =
+          let own : IsSymbolOf final.symbols m.scope x m.number = (kept_program p (has_form p h)).owned (record { scope = m.scope; name = x; symbol = m.number }) (get_among final.bindings m.scope x m.number bound_there) in
+          ap (λ y. y.scope) (same_symbol missed_symbol.symbol own.symbol (sym missed_symbol.is_there ∙ own.is_there)) ∙ own.stands
+        where
+          same_symbol : (y z : Symbol) → Some y ≡ Some z → y ≡ z
+          same_symbol y z e = cc
+
       is_passed : may_be_passed missed_symbol.symbol ≡ true
-      is_passed = ap (λ b. b || is_inner_alias missed_symbol.symbol) (subst (λ f. ((meets f symbol.ValueModule.bits || meets f symbol.NamespaceModule.bits) && not (meets f symbol.TypeFlag.bits)) ≡ true) (sym missed_flags) (bare m.flags m.namespace m.no_type))
+      is_passed = elim m.passed [
+        | inl (namespace, no_type) ↦ ap (λ b. b || is_inner_alias missed_symbol.symbol) (subst (λ f. ((meets f symbol.ValueModule.bits || meets f symbol.NamespaceModule.bits) && not (meets f symbol.TypeFlag.bits)) ≡ true) (sym missed_flags) (bare m.flags namespace no_type))
+        | inr (import, inner) ↦ or_last (is_bare_namespace missed_symbol.symbol) (is_inner_alias missed_symbol.symbol)
+            (and_from (meets missed_symbol.symbol.flags.bits symbol.Import.bits || meets missed_symbol.symbol.flags.bits symbol.TypeImport.bits) (not (missed_symbol.symbol.scope == 0))
+            (or_last (meets missed_symbol.symbol.flags.bits symbol.Import.bits) (meets missed_symbol.symbol.flags.bits symbol.TypeImport.bits) (ap (λ f. meets f symbol.TypeImport.bits) missed_flags ∙ import)) (ap (λ c. not (c == 0)) scope_there ∙ ap not inner))
+      ]
+        where
+          or_last : (a b : Bool) → b ≡ true → (a || b) ≡ true
+          or_last true b e = refl
+          or_last false b e = e
 
       alone : is_shared (tables_of p).symbols x ≡ false
       alone = not_shared (any_there (λ y. may_be_passed y && bytes_eq x y.name) (tables_of p).symbols missed_symbol.symbol (among_at (tables_of p).symbols m.number missed_symbol.symbol missed_symbol.is_there)

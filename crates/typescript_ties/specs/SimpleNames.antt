@@ -44,6 +44,7 @@ is_simple_sort sort.Lexical = true
 is_simple_sort sort.Function = true
 is_simple_sort sort.Class = true
 is_simple_sort sort.Import = true
+is_simple_sort sort.TypeImport = true
 is_simple_sort sort.TypeAlias = true
 is_simple_sort sort.Interface = true
 is_simple_sort sort.Enum = true
