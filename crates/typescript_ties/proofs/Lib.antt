@@ -11,6 +11,7 @@ pub mod Unheaded
 pub mod Heads
 pub mod EnteredOnce
 pub mod ScopeOpeners
+pub mod OwnScopes
 pub mod ChildChains
 pub mod HeadPlaces
 pub mod Pairs

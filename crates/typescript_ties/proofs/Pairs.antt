@@ -1,5 +1,5 @@
 -- Each declaration that the tables are told with the one of the language that it is.
-use Rattle.std.proofs.Common.{◌≡◌, ℕ, List, [], ◌∷◌, ◌++◌, None, Bool, true, false, ◌&&◌, ◌||◌, not, cond, map, flat_map, refl, sym, ap, subst, ◌∙◌, inl, inr, ◌⊎◌, codes, if◌then◌else◌}
+use Rattle.std.proofs.Common.{◌≡◌, ℕ, suc, List, [], ◌∷◌, ◌++◌, None, Bool, true, false, ◌&&◌, ◌||◌, not, cond, map, flat_map, refl, sym, ap, subst, ◌∙◌, inl, inr, ◌⊎◌, codes, if◌then◌else◌}
 use Rattle.std.specs.List.{list_any}
 use Rattle.std.proofs.lemmas.Bool.{not-true}
 use Rattle.semantic_syntax.proofs.Truth.{and_first, and_second}
@@ -18,6 +18,7 @@ use Rattle.semantic_tree.specs.declared.node.Node.{Node}
 use Rattle.semantic_model.specs.Binder.{BinderRow, declaration_at, ambient_if, is_var, is_special, is_statement, lexical_flags, variable_row, variables_under, is_pure_declarator, is_block_function, is_clause, is_conditional, function_excluded, class_row, parameter_excluded, parameters_under, catch_names, marked_ambient, member_named, namespace_row, type_parameter_row, ids, declared_by, declared_inside}
 use Rattle.semantic_model.specs.Declaration.{Declaration, plain, hoisted, moved, caught, here, outward_to, outward_past}
 use Rattle.semantic_model.specs.Entries.{Among}
+use Rattle.semantic_model.specs.Inside.{opens, body_number}
 use Rattle.semantic_model.specs.Names.{bound_names, bound_below, names_at}
 use Rattle.semantic_model.specs.Namespace.{InstanceState, non_instantiated, const_enum_only, instantiated, instance_state, nodes_around}
 use Rattle.semantic_model.specs.Place as place
@@ -28,7 +29,7 @@ use Rattle.std.proofs.lemmas.List.{append-nil, map-append}
 use denote.Enum.Bare.{same_true}
 use Rattle.typescript_ties.specs.contracts.container_kind.ContainerKind.{the_type as the_container_kinds}
 use Rattle.typescript_ties.specs.declared.container_kind.ContainerKind.{ContainerKind}
-use Rattle.typescript_ties.specs.Containers.{Container, is_container, same_container_kind, same_container, container_of, bound_container, is_exported_under}
+use Rattle.typescript_ties.specs.Containers.{Container, is_container, same_container_kind, same_container, container_of, bound_container, is_exported_under, containers_by}
 use Rattle.typescript_ties.specs.DeclaredNames.{told_to_tables, told_by_language}
 use Rattle.typescript_ties.specs.MeaningSets.{sort_meanings}
 use Rattle.typescript_ties.specs.NamedDeclarations.{NamedDeclaration, named_declaration, global_besides, declared_here, imported_as, declared_outward, variables_named, leaves_its_block, namespace_sort, first_condition, named_by_node}
@@ -36,8 +37,10 @@ use Rattle.typescript_ties.specs.SimpleNames.{is_simple_sort, is_apart, is_simpl
 use Rattle.typescript_ties.specs.declared.container_kind.ContainerKind.TheVariants as container
 use Rattle.typescript_ties.specs.declared.declaration_sort.DeclarationSort.{DeclarationSort}
 use Rattle.typescript_ties.specs.declared.declaration_sort.DeclarationSort.TheVariants as sort
+use Rattle.typescript_ties.proofs.ChildPlaces.{is_function}
 use Rattle.typescript_ties.proofs.HeadPlaces.{HeadAt, HasOrigin, IsHeaded, IsCommonPlace, round_place}
 use Rattle.typescript_ties.proofs.KnownPlaces.{is_bare_rest}
+use Rattle.typescript_ties.proofs.ScopeOpeners.{openers, IsOpened}
 use Rattle.typescript_ties.proofs.Unheaded.{is_unheaded}
 
 never : true ≡ false → ⊥
@@ -65,9 +68,7 @@ module _ (p : Tree) where
     pub in_header : is_container container.TypeParameters n.container ≡ true → IsHeaded p w.route.target
     pub unheaded : (sort_meanings n.sort).namespace ≡ true → w.route.target.in_header ≡ false
     pub origin : HasOrigin p n.container
-    pub place : Place
-    pub entered : Among (entering place) (steps p)
-    pub target : w.route.target ≡ innermost place.chain
+    pub opened : IsOpened (openers (steps p)) w.route.target
 
   pub record IsSimplePair (w : Declaration) (n : NamedDeclaration) : Type 0 where
     pub how : w.how ≡ plain
@@ -111,7 +112,8 @@ module _ (p : Tree) where
 
   -- ---- one place
 
-  module _ (q : Place) (entered : Among (entering q) (steps p)) (k : IsCommonPlace p q) (typed : is_typescript s ≡ true) (count : ℕ) where
+  module _ (q : Place) (entered : Among (entering q) (steps p)) (k : IsCommonPlace p q) (typed : is_typescript s ≡ true) (count : ℕ)
+      (head_opened : IsOpened (openers (steps p)) (innermost q.chain)) (own_opened : opens q.node.kind ≡ true → IsOpened (openers (steps p)) (opened_scope q count)) where
     abbrev cs : List Container
     cs = round_place p q
 
@@ -139,9 +141,7 @@ module _ (p : Tree) where
           in_body = λ i. ap (λ o. o.in_header) t ∙ h.in_body b (subst (λ c. is_container container.Body c ≡ true) e i);
           in_header = λ i. subst (IsHeaded p) (sym t) (h.in_header b (subst (λ c. is_container container.TypeParameters c ≡ true) e i));
           unheaded = λ i. ap (λ o. o.in_header) t ∙ k.unheaded (u i);
-          place = q;
-          entered = entered;
-          target = t;
+          opened = subst (IsOpened (openers (steps p))) (sym t) head_opened;
           origin = origin_of (h.origin n.container (subst (λ c. Among c cs) (sym e) (h.among b free)));
         }
       where
@@ -178,6 +178,19 @@ module _ (p : Tree) where
     import_here flags excluded j u f id =
         let b : Bool = place.parent_holds (is kind.ExportDeclaration) q.path in
         pair_here flags excluded false j b (global_besides (bound_container b cs)) u f (beside (bound_container b cs)) id
+
+    -- declared in the scope that the node opens
+    own_home : (w : Declaration) (n : NamedDeclaration) → w.route.target ≡ own → n.container.node ≡ q.node.node_id → Among n.container (containers_by q.node.kind s q.node q.path cs q.node) → opens q.node.kind ≡ true → same_kind q.node.kind kind.CatchClause ≡ false
+        → is_container container.Body n.container ≡ false → (is_container container.TypeParameters n.container ≡ true → is_function q.node.kind ≡ false) → (sort_meanings n.sort).namespace ≡ false → IsAtHome w n
+    own_home w n t at among o no_clause no_body no_function no_namespace = record {
+      opener = ap (λ z. z.opener) t ∙ sym at;
+      lasting = ap (λ z. z.body) t ∙ ap (λ b. cond b (body_number (suc count) q.node.children) None) no_clause;
+      in_body = λ i. absurd (never (sym i ∙ no_body));
+      in_header = λ i. record { place = q; entered = entered; opener = ap (λ z. z.opener) t; header = λ j. absurd (never (sym j ∙ no_function i)) };
+      unheaded = λ i. absurd (never (sym i ∙ no_namespace));
+      opened = subst (IsOpened (openers (steps p))) (sym t) (own_opened o);
+      origin = record { place = q; entered = entered; child = q.node; among = among; stands = at };
+    }
 
     -- of a sort that isn't simple
     unsimple : (w : Declaration) (n : NamedDeclaration) → is_simple_sort n.sort ≡ false → told_to_tables w ≡ told_by_language n → IsPair w n
@@ -236,6 +249,9 @@ module _ (p : Tree) where
 
     member_are : FlagsAre sort.EnumMember symbol.EnumMember.bits
     member_are = record { value = refl; is_type = refl; namespace = refl; no_own = refl }
+
+    key_are : FlagsAre sort.MappedKey symbol.TypeParameter.bits
+    key_are = record { value = refl; is_type = refl; namespace = refl; no_own = refl }
 
     parameter_are : FlagsAre sort.TypeParameter symbol.TypeParameter.bits
     parameter_are = record { value = refl; is_type = refl; namespace = refl; no_own = refl }
@@ -339,10 +355,17 @@ module _ (p : Tree) where
         go true = map_pairs (declaration_at q.node (class_row q q.chain) false) (declared_here sort.Class s q.node q.path) (ids q.node) (λ id. sort_here (union symbol.Class.bits (marked_ambient q.node)) symbol.ClassExcludes.bits false sort.Class (no_namespace (is_unheaded q.node.kind)) (class_are (has mark.Declare q.node)) id)
         go false = map_pairs_last (declaration_at q.node (class_row q (own ∷ [])) false) own_name (ids q.node) (λ id. unsimple (declaration_at q.node (class_row q (own ∷ [])) false id) (own_name id) refl refl)
 
-    mapped_pairs : Paired kind.TSMappedType
-    mapped_pairs =
-        let w : Node → Declaration = declaration_at q.node (type_parameter_row (here (own ∷ []))) false in
-        map_pairs_last w (named_declaration sort.MappedKey (container_of container.TypeParameters q.node) []) (names_at role.Key q.node) (λ id. unsimple (w id) (named_declaration sort.MappedKey (container_of container.TypeParameters q.node) [] id) refl refl)
+    mapped_pairs : q.node.kind ≡ kind.TSMappedType → Paired kind.TSMappedType
+    mapped_pairs e = map_pairs_last w key (names_at role.Key q.node) (λ id. record { told = refl; simple = λ i. record { how = refl; flags = key_are; home = home id; also = nothing_else } })
+      where
+        w : Node → Declaration
+        w = declaration_at q.node (type_parameter_row (here (own ∷ []))) false
+
+        key : Node → NamedDeclaration
+        key = named_declaration sort.MappedKey (container_of container.TypeParameters q.node) []
+
+        home : (id : Node) → IsAtHome (w id) (key id)
+        home id = own_home (w id) (key id) refl refl (subst (λ j. Among (container_of container.TypeParameters q.node) (containers_by j s q.node q.path cs q.node)) (sym e) (inl refl)) (ap opens e) (ap (λ j. same_kind j kind.CatchClause) e) refl (λ i. ap is_function e) refl
 
     import_pairs : is_unheaded q.node.kind ≡ true → Paired kind.ImportSpecifier
     import_pairs u = go (has mark.TypeOnly q.node || place.parent_holds (has mark.TypeOnly) q.path)
@@ -419,6 +442,6 @@ module _ (p : Tree) where
     pairs_by kind.TSEnumMember e i r u = member_pairs
     pairs_by kind.TSNamespaceDeclaration e i r u = namespace_pairs (ap is_unheaded e) (instance_state q.node q.path (nodes_around q.node q.path))
     pairs_by kind.TSTypeParameter e i r u = type_parameter_pairs
-    pairs_by kind.TSMappedType e i r u = mapped_pairs
+    pairs_by kind.TSMappedType e i r u = mapped_pairs e
     pairs_by kind.TSIndexSignatureName e i r u = absurd cc
     pairs_by _ e i r u = tt

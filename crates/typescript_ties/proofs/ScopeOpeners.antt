@@ -91,7 +91,7 @@ module _ (table : List ℕ) where
 
 -- ---- the program
 
-opened_at : (table : List ℕ) (n : ℕ) (ss : List Step) → ((i : ℕ) → slice_get table (n + i) ≡ slice_get (openers ss) i) → OpenedFrom (λ m p s. slice_get table m ≡ Some s.opener) n ss
+pub opened_at : (table : List ℕ) (n : ℕ) (ss : List Step) → ((i : ℕ) → slice_get table (n + i) ≡ slice_get (openers ss) i) → OpenedFrom (λ m p s. slice_get table m ≡ Some s.opener) n ss
 opened_at table n [] h = tt
 opened_at table n (opening p s ∷ more) h =
     (subst (λ m. slice_get table m ≡ Some s.opener) (omega arith) (h 0), opened_at table (suc n) more (λ i. subst (λ m. slice_get table m ≡ slice_get (openers more) i) (omega arith) (h (suc i))))

@@ -38,7 +38,7 @@ is_common_forest k (tree r k2 span text marks below id after) = is_common_child 
 abbrev pub is_common : Tree → Bool
 is_common p = is_common_forest p.root.kind p.root.children
 
--- lexical, a type or class, an enum or its member, a namespace, an import, a type parameter, or a function that stays where it stands
+-- lexical, a type or class, an enum or its member, a namespace, an import, a type parameter, the key of a mapped type, or a function that stays where it stands
 abbrev pub is_simple_sort : DeclarationSort → Bool
 is_simple_sort sort.Lexical = true
 is_simple_sort sort.Function = true
@@ -50,6 +50,7 @@ is_simple_sort sort.Interface = true
 is_simple_sort sort.Enum = true
 is_simple_sort sort.EnumMember = true
 is_simple_sort sort.TypeParameter = true
+is_simple_sort sort.MappedKey = true
 is_simple_sort sort.TypeNamespace = true
 is_simple_sort sort.ValueNamespace = true
 is_simple_sort _ = false
