@@ -13,6 +13,7 @@ pub mod ScopeOpeners
 pub mod ChildChains
 pub mod HeadPlaces
 pub mod Pairs
+pub mod SimpleOnes
 pub mod SimpleDeclarations
 pub mod Groups
 pub mod FitsTogether

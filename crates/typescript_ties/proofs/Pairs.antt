@@ -1,8 +1,6 @@
 -- Each declaration that the tables are told with the one of the language that it is.
 use Rattle.std.proofs.Common.{◌≡◌, ℕ, List, [], ◌∷◌, ◌++◌, None, Bool, true, false, ◌&&◌, ◌||◌, not, cond, map, flat_map, refl, sym, ap, subst, ◌∙◌, inl, inr, ◌⊎◌, codes, if◌then◌else◌}
 use Rattle.std.specs.List.{list_any}
-use Rattle.std.proofs.lemmas.Bool.{not-true}
-use Rattle.semantic_syntax.proofs.Truth.{and_first, and_second}
 use Rattle.semantic_kinds.specs.Kinds.{same_kind}
 use Rattle.semantic_kinds.specs.declared.kind.AstType.{AstType}
 use Rattle.semantic_kinds.specs.declared.kind.AstType.TheVariants as kind
@@ -36,8 +34,10 @@ use Rattle.typescript_ties.specs.SimpleNames.{is_simple_sort, is_apart, is_simpl
 use Rattle.typescript_ties.specs.declared.container_kind.ContainerKind.TheVariants as container
 use Rattle.typescript_ties.specs.declared.declaration_sort.DeclarationSort.{DeclarationSort}
 use Rattle.typescript_ties.specs.declared.declaration_sort.DeclarationSort.TheVariants as sort
+use Rattle.typescript_ties.proofs.Heads.{is_of_header}
 use Rattle.typescript_ties.proofs.HeadPlaces.{HeadAt, HasOrigin, IsHeaded, IsCommonPlace, round_place}
 use Rattle.typescript_ties.proofs.KnownPlaces.{is_bare_rest}
+use Rattle.typescript_ties.proofs.SimpleOnes.{sort_is_simple, is_not_apart}
 
 never : true ≡ false → ⊥
 never h = absurd cc
@@ -62,7 +62,7 @@ module _ (p : Tree) where
     pub opener : w.route.target.opener ≡ n.container.node
     pub lasting : w.route.target.body ≡ None
     pub in_body : is_container container.Body n.container ≡ true → w.route.target.in_header ≡ false
-    pub in_header : is_container container.TypeParameters n.container ≡ true → IsHeaded p w.route.target
+    pub in_header : is_of_header n.container ≡ true → IsHeaded p w.route.target
     pub origin : HasOrigin p n.container
     pub place : Place
     pub entered : Among (entering place) (steps p)
@@ -118,7 +118,7 @@ module _ (p : Tree) where
     own = opened_scope q count
 
     abbrev not_apart : (n : NamedDeclaration) → is_simple n ≡ true → is_apart n.container.kind ≡ false
-    not_apart n e = not-true (is_apart n.container.kind) (and_second (is_simple_sort n.sort) (not (is_apart n.container.kind)) e)
+    not_apart n e = is_not_apart n e
 
     -- declared where the node stands
     at_head : (w : Declaration) (n : NamedDeclaration) (b : Bool) → w.route.target ≡ innermost q.chain → n.container ≡ bound_container b cs → is_apart n.container.kind ≡ false → IsAtHome w n
@@ -129,7 +129,7 @@ module _ (p : Tree) where
           opener = ap (λ o. o.opener) t ∙ h.opener b free ∙ ap (λ c. c.node) (sym e);
           lasting = ap (λ o. o.body) t ∙ h.lasting b free;
           in_body = λ i. ap (λ o. o.in_header) t ∙ h.in_body b (subst (λ c. is_container container.Body c ≡ true) e i);
-          in_header = λ i. subst (IsHeaded p) (sym t) (h.in_header b (subst (λ c. is_container container.TypeParameters c ≡ true) e i));
+          in_header = λ i. subst (IsHeaded p) (sym t) (h.in_header b (subst (λ c. is_of_header c ≡ true) e i));
           place = q;
           entered = entered;
           target = t;
@@ -172,7 +172,7 @@ module _ (p : Tree) where
 
     -- of a sort that isn't simple
     unsimple : (w : Declaration) (n : NamedDeclaration) → is_simple_sort n.sort ≡ false → told_to_tables w ≡ told_by_language n → IsPair w n
-    unsimple w n e t = record { told = t; simple = λ i. absurd (never (sym (and_first (is_simple_sort n.sort) (not (is_apart n.container.kind)) i) ∙ e)) }
+    unsimple w n e t = record { told = t; simple = λ i. absurd (never (sym (sort_is_simple n i) ∙ e)) }
 
     -- ---- row by row
 
@@ -225,6 +225,9 @@ module _ (p : Tree) where
     member_are : FlagsAre sort.EnumMember symbol.EnumMember.bits
     member_are = record { value = refl; as_type = refl; is_type = refl; namespace = refl; no_own = refl }
 
+    value_parameter_are : FlagsAre sort.Parameter symbol.FunctionScopedVariable.bits
+    value_parameter_are = record { value = refl; as_type = refl; is_type = refl; namespace = refl; no_own = refl }
+
     parameter_are : FlagsAre sort.TypeParameter symbol.TypeParameter.bits
     parameter_are = record { value = refl; as_type = refl; is_type = refl; namespace = refl; no_own = refl }
 
@@ -252,8 +255,8 @@ module _ (p : Tree) where
     parameter_pairs : (path : List Node) → (path ≡ [] → ⊥) → AllPairs (parameters_under path q) (map (named_declaration sort.Parameter (bound_container false cs) []) (bound_names q.node))
     parameter_pairs [] e = absurd (e refl)
     parameter_pairs (list ∷ path) e =
-        let w : Node → Declaration = declaration_at q.node (record { flags = symbol.FunctionScopedVariable.bits; excluded = parameter_excluded list q.chain; how = plain; route = here q.chain }) false in
-        map_pairs w (named_declaration sort.Parameter (bound_container false cs) []) (bound_names q.node) (λ id. unsimple (w id) (named_declaration sort.Parameter (bound_container false cs) [] id) refl refl)
+        map_pairs (declaration_at q.node (record { flags = symbol.FunctionScopedVariable.bits; excluded = parameter_excluded list q.chain; how = plain; route = here q.chain }) false) (named_declaration sort.Parameter (bound_container false cs) []) (bound_names q.node)
+        (pair_here symbol.FunctionScopedVariable.bits (parameter_excluded list q.chain) false sort.Parameter false [] value_parameter_are nothing_else)
 
     catch_pairs : (patterns : List Node) → AllPairs (flat_map (catch_names q) patterns) (map (named_declaration sort.CatchName (bound_container false cs) []) (flat_map bound_names patterns))
     catch_pairs [] = tt

@@ -1,7 +1,7 @@
 -- What is tried of a name holds of it.
 use Rattle.std.proofs.Common.{◌≡◌, ◌==◌, List, [], ◌∷◌, Bool, true, false, ◌&&◌, ◌||◌, not, sym, ap, subst, ◌∙◌, inl, inr, bytes_eq}
 use Rattle.std.specs.List.{list_all}
-use Rattle.std.proofs.lemmas.Bool.{and_from}
+use Rattle.std.proofs.lemmas.Bool.{and_from, not-true}
 use Rattle.std.proofs.lemmas.Bool.Decides.{eqb_tells}
 use denote.Enum.Bare.{same_true}
 use Rattle.semantic_syntax.proofs.Truth.{and_first, and_second}
@@ -11,13 +11,14 @@ use Rattle.semantic_tree.specs.Tree.{Tree}
 use Rattle.semantic_tree.specs.Views.{is}
 use Rattle.semantic_model.specs.Cursor.{way_or_read}
 use Rattle.semantic_model.specs.Entries.{Among}
+use Rattle.semantic_model.specs.Place.{Place}
 use Rattle.semantic_model.specs.Step.{entering, steps}
 use Rattle.semantic_model.proofs.once.ListedUnder.{name_tells}
 use Rattle.typescript_ties.specs.AskedMeanings.{asked_by_reference}
 use Rattle.typescript_ties.specs.Containers.{Container, same_container_kind, is_container, same_container}
 use Rattle.typescript_ties.specs.NamedDeclarations.{NamedDeclaration, is_sort, named_in}
-use Rattle.typescript_ties.specs.SimpleNames.{is_simple, is_way_of, IsSimpleName}
-use Rattle.typescript_ties.specs.TriedNames.{containers_at, all_containers, is_declared_simply, asks_at, is_simple_name}
+use Rattle.typescript_ties.specs.SimpleNames.{is_simple, is_way_of, is_past_parameter, IsSimpleName}
+use Rattle.typescript_ties.specs.TriedNames.{containers_at, all_containers, is_declared_simply, asks_its_way, asks_past_none, asks_at, is_simple_name}
 use Rattle.typescript_ties.specs.contracts.declaration_sort.DeclarationSort.{the_type as the_sorts}
 use Rattle.typescript_ties.specs.declared.container_kind.ContainerKind.TheVariants as container
 use Rattle.typescript_ties.specs.declared.declaration_sort.DeclarationSort.TheVariants as sort
@@ -40,10 +41,17 @@ module _ (p : Tree) (x : Name) (tried : is_simple_name p x ≡ true) where
   abbrev cs : List Container
   cs = all_containers p
 
+  -- of a reference what is asked of it
+  asked : (q : Place) → Among (entering q) (steps p) → (asks_its_way x q && asks_past_none (named_in p) x q) ≡ true
+  asked q entered = all_among (asks_at (named_in p) x) (steps p) (entering q) (and_second (list_all (λ z. not (bytes_eq z.name x) || is_declared_simply cs z) (named_in p)) (list_all (asks_at (named_in p) x) (steps p)) tried) entered
+
+  named_x : (y : Name) → y ≡ x → bytes_eq y x ≡ true
+  named_x y e = elim (name_tells y x) [ inl i ↦ i.0 | inr i ↦ absurd (i.1 e) ]
+
   declared : (d : NamedDeclaration) → Among d (named_in p) → d.name ≡ x → is_declared_simply cs d ≡ true
   declared d a e =
       implied (bytes_eq d.name x) (is_declared_simply cs d)
-      (all_among (λ z. not (bytes_eq z.name x) || is_declared_simply cs z) (named_in p) d (and_first (list_all (λ z. not (bytes_eq z.name x) || is_declared_simply cs z) (named_in p)) (list_all (asks_at x) (steps p)) tried) a)
+      (all_among (λ z. not (bytes_eq z.name x) || is_declared_simply cs z) (named_in p) d (and_first (list_all (λ z. not (bytes_eq z.name x) || is_declared_simply cs z) (named_in p)) (list_all (asks_at (named_in p) x) (steps p)) tried) a)
       (elim (name_tells d.name x) [ inl i ↦ i.0 | inr i ↦ absurd (i.1 e) ])
 
   abbrev typed : NamedDeclaration → Bool
@@ -62,6 +70,8 @@ module _ (p : Tree) (x : Name) (tried : is_simple_name p x ≡ true) where
         elim (eqb_tells d.container.node c.node) [ inl j ↦ j.1 | inr j ↦ absurd (never (sym one ∙ j.0)) ]);
     types = λ d a e i. same_true the_sorts tt d.sort sort.TypeParameter (implied (is_container container.TypeParameters d.container) (is_sort sort.TypeParameter d) (and_second (is_simple d) (typed d) (and_first (is_simple d && typed d) (alone d) (declared d a e))) i);
     ways = λ q entered refers is_x. implied (is kind.IdentifierReference q.node && bytes_eq q.node.text x) (is_way_of (asked_by_reference q.path) (way_or_read q.cursor))
-        (all_among (asks_at x) (steps p) (entering q) (and_second (list_all (λ z. not (bytes_eq z.name x) || is_declared_simply cs z) (named_in p)) (list_all (asks_at x) (steps p)) tried) entered)
-        (and_from (is kind.IdentifierReference q.node) (bytes_eq q.node.text x) refers (elim (name_tells q.node.text x) [ inl i ↦ i.0 | inr i ↦ absurd (i.1 is_x) ]));
+        (and_first (asks_its_way x q) (asks_past_none (named_in p) x q) (asked q entered)) (and_from (is kind.IdentifierReference q.node) (bytes_eq q.node.text x) refers (named_x q.node.text is_x));
+    parameters = λ q entered refers is_x past. not-true (asked_by_reference q.path).value
+        (implied ((is kind.IdentifierReference q.node && bytes_eq q.node.text x) && is_past_parameter (named_in p) x q.node q.path) (not (asked_by_reference q.path).value) (and_second (asks_its_way x q) (asks_past_none (named_in p) x q) (asked q entered))
+        (and_from (is kind.IdentifierReference q.node && bytes_eq q.node.text x) (is_past_parameter (named_in p) x q.node q.path) (and_from (is kind.IdentifierReference q.node) (bytes_eq q.node.text x) refers (named_x q.node.text is_x)) past));
   }

@@ -1,6 +1,5 @@
 -- The declarations of a name that is declared simply, as the tables and as the language have them.
-use Rattle.std.proofs.Common.{◌≡◌, ℕ, List, [], ◌∷◌, ◌++◌, None, Bool, true, false, not, cond, map, flat_map, refl, sym, ap, subst, ◌∙◌, inl, inr}
-use Rattle.semantic_syntax.proofs.Truth.{and_first}
+use Rattle.std.proofs.Common.{◌≡◌, ℕ, List, [], ◌∷◌, ◌++◌, None, Bool, true, false, cond, map, flat_map, refl, sym, ap, subst, ◌∙◌, inl, inr}
 use Rattle.semantic_kinds.specs.Kinds.{same_kind}
 use Rattle.semantic_kinds.specs.declared.kind.AstType.{AstType}
 use Rattle.semantic_kinds.specs.declared.kind.AstType.TheVariants as kind
@@ -31,13 +30,14 @@ use Rattle.typescript_ties.specs.Containers.{Container}
 use Rattle.typescript_ties.specs.DeclaredNames.{told_to_tables, told_by_language}
 use Rattle.typescript_ties.specs.NamedDeclarations.{NamedDeclaration, named_declaration, named_by_node, named_at, named_in}
 use Rattle.typescript_ties.specs.SeenTogether.{IsPlainlyDeclared}
-use Rattle.typescript_ties.specs.SimpleNames.{is_common, is_simple_sort, is_apart, is_simple, IsSimplyDeclared}
+use Rattle.typescript_ties.specs.SimpleNames.{is_common, is_simple_sort, is_simple, IsSimplyDeclared}
 use Rattle.typescript_ties.specs.declared.declaration_sort.DeclarationSort.{DeclarationSort}
 use Rattle.typescript_ties.specs.declared.declaration_sort.DeclarationSort.TheVariants as sort
 use Rattle.typescript_ties.proofs.HeadPlaces.{IsCommonPlace, CommonStep, common_places}
 use Rattle.typescript_ties.proofs.KnownPlaces.{IsKnownPlace, KnownStep, known_places}
 use Rattle.typescript_ties.proofs.Pairs.{IsAtHome, IsSimplePair, AllPairs, pair_of_written, pair_of_named, pairs_by}
 use Rattle.typescript_ties.proofs.ScopeOpeners.{openers, IsOpened, IsPlaceOpened, places_opened, innermost_opened}
+use Rattle.typescript_ties.proofs.SimpleOnes.{sort_is_simple}
 use Rattle.typescript_ties.proofs.UndeclaredFree.{each_among, IsWritten, is_written, not_index, named_among}
 
 never : true ≡ false → ⊥
@@ -79,7 +79,7 @@ is_made d st (ends_header c ∷ es) a = is_made d st es a
 
 sort_of : (j : DeclarationSort) (c : Container) (names : List Node) (n : NamedDeclaration) → Among n (map (named_declaration j c []) names) → is_simple n ≡ true → is_simple_sort j ≡ true
 sort_of j c [] n a e = absurd a
-sort_of j c (x ∷ xs) n (inl i) e = subst (λ z. is_simple_sort z ≡ true) (sym (ap (λ (m : NamedDeclaration). m.sort) i)) (and_first (is_simple_sort n.sort) (not (is_apart n.container.kind)) e)
+sort_of j c (x ∷ xs) n (inl i) e = subst (λ z. is_simple_sort z ≡ true) (sym (ap (λ (m : NamedDeclaration). m.sort) i)) (sort_is_simple n e)
 sort_of j c (x ∷ xs) n (inr a) e = sort_of j c xs n a e
 
 no_statement : (b : Bool) (f : Node → NamedDeclaration) (j : DeclarationSort) (c : Container) (names : List Node) (n : NamedDeclaration) → is_simple_sort j ≡ false → Among n (map (cond b f (named_declaration j c [])) names) → is_simple n ≡ true → b ≡ true
@@ -190,7 +190,7 @@ module _ (p : Tree) (h : first_fault p ≡ None) (common : is_common p ≡ true)
       )
     where
       no_index : (q : Place) (n : NamedDeclaration) (k : AstType) → Among n (named_by_node k p.source_type q.node q.path) → is_simple n ≡ true → same_kind k kind.TSIndexSignatureName ≡ false
-      no_index q n kind.TSIndexSignatureName (inl i) u = absurd (never (sym (subst (λ z. is_simple_sort z ≡ true) (sym (ap (λ (m : NamedDeclaration). m.sort) i)) (and_first (is_simple_sort n.sort) (not (is_apart n.container.kind)) u))))
+      no_index q n kind.TSIndexSignatureName (inl i) u = absurd (never (sym (subst (λ z. is_simple_sort z ≡ true) (sym (ap (λ (m : NamedDeclaration). m.sort) i)) (sort_is_simple n u))))
       no_index q n kind.TSIndexSignatureName (inr i) u = absurd i
       no_index q n kind.Program a u = refl
       no_index q n _ a u = refl
