@@ -2,7 +2,7 @@
 use Rattle.std.proofs.Common.{◌≡◌, ℕ, ◌==◌, List, [], ◌∷◌, ◌++◌, Option, Some, None, Bool, true, false, ◌&&◌, ◌||◌, not, cond, refl, sym, ap, subst, ◌∙◌, inl, inr, ◌⊎◌, bytes_eq, codes, map, filter}
 use Rattle.std.specs.List.{list_any}
 use Rattle.std.specs.Prelude.{slice_get}
-use Rattle.std.proofs.lemmas.Bool.{cases_Bool, and_from, not-true}
+use Rattle.std.proofs.lemmas.Bool.{cases_Bool, and_from, eq-eqb, not-true}
 use Rattle.std.proofs.lemmas.Bool.Decides.{eqb_tells}
 use Rattle.semantic_syntax.proofs.Truth.{and_first, and_second}
 use Rattle.semantic_kinds.specs.Classes.{holds_kind}
@@ -18,6 +18,7 @@ use Rattle.semantic_syntax.specs.declared.symbol_flags.TheConstants.SymbolFlags 
 use Rattle.semantic_tree.specs.Faults.{first_fault}
 use Rattle.semantic_tree.specs.Forest.{Forest, nothing, tree}
 use Rattle.semantic_tree.specs.Tree.{Tree, IsNumbered}
+use Rattle.semantic_tree.specs.Views.{is}
 use Rattle.semantic_tree.specs.declared.node.Node.{Node}
 use Rattle.semantic_model.specs.Analysis.{analysis_of, symbol_at}
 use Rattle.semantic_model.specs.Cursor.{on_entering}
@@ -40,11 +41,12 @@ use Rattle.semantic_model.specs.TablesOf.{made_of}
 use Rattle.binding_laws.specs.SeenDeclarations.{is_own_name, stands_before_body, is_before_body, bound_by_all}
 use Rattle.binding_laws.proofs.SymbolsAtNodes.{symbols_are_at_nodes}
 use Rattle.typescript_ties.specs.Containers.{Container, same_container_kind, same_members, same_container, no_container, outside_function, containers_by}
-use Rattle.typescript_ties.specs.MeaningSets.{MeaningSet}
-use Rattle.typescript_ties.specs.NamedDeclarations.{NamedDeclaration, named_in}
+use Rattle.typescript_ties.specs.MeaningSets.{MeaningSet, shares_meaning, sort_meanings}
+use Rattle.typescript_ties.specs.NamedDeclarations.{NamedDeclaration, same_sort, is_sort, named_in}
 use Rattle.typescript_ties.specs.Resolved.{Resolved, nowhere, declared_in, has_declared, declarations_in, has_meaning, resolve}
 use Rattle.typescript_ties.specs.SeenTogether.{is_in_scope, is_seen_from, bound_together, asked_together}
-use Rattle.typescript_ties.specs.SimpleNames.{is_common_child, is_common_forest, is_common, is_apart, is_simple_sort, IsSimplyDeclared, HasOwnMembers, is_way_of}
+use Rattle.typescript_ties.specs.SimpleNames.{is_common_child, is_common_forest, is_common, is_apart, IsSimplyDeclared, HasOwnMembers, is_way_of, is_parameter_named, is_past_parameter}
+use Rattle.typescript_ties.specs.declared.declaration_sort.DeclarationSort.TheVariants as sort
 use Rattle.typescript_ties.proofs.ChildChains.{ChainOf, outer_chain, inner_chain, OwnOf, own_of, chain_of}
 use Rattle.typescript_ties.proofs.ChildPlaces.{tells_inside, told_by_kind, tree_tells, tells_header, tree_headed}
 use Rattle.typescript_ties.proofs.EnteredOnce.{entered_once}
@@ -52,8 +54,9 @@ use Rattle.typescript_ties.proofs.FitsTogether.{any_meets, AreBoundAs, bound_as_
 use Rattle.typescript_ties.proofs.HeadPlaces.{IsCommonPlace, CommonStep, common_places, round_place}
 use Rattle.typescript_ties.proofs.OutsideGroups.{IsAside, aside_of}
 use Rattle.typescript_ties.proofs.Pairs.{container_kind_is}
-use Rattle.typescript_ties.proofs.ScopeMembers.{SeenAs, seen_as, SeenToo, seen_too}
+use Rattle.typescript_ties.proofs.ScopeMembers.{IsHidden, SeenAs, seen_as, SeenToo, seen_too}
 use Rattle.typescript_ties.proofs.ScopeOpeners.{openers, IsOpened, AllOpened, IsPlaceOpened, places_opened, root_opener}
+use Rattle.typescript_ties.proofs.SimpleOnes.{is_not_apart}
 use Rattle.typescript_ties.proofs.SimpleDeclarations.{IsBoth, of_language, made_so, one_symbol}
 use Rattle.typescript_ties.proofs.UndeclaredFree.{OfEntered, IsEnteredIn, all_entered}
 
@@ -181,7 +184,7 @@ module _ (p : Tree) (h : first_fault p ≡ None) (common : is_common p ≡ true)
   looked_up w chain = symbol_by (lookup x w (map (asked_together p x) chain))
 
   abbrev pub AgreesRound : Place → Type 0
-  AgreesRound q = (asked : MeaningSet) (w : ℕ) → is_way_of asked w ≡ true → Matches w (looked_up w q.chain) (resolve ns (round_place p q) asked x)
+  AgreesRound q = (asked : MeaningSet) (w : ℕ) → is_way_of asked w ≡ true → (is_past_parameter ns x q.node q.path ≡ true → asked.value ≡ false) → Matches w (looked_up w q.chain) (resolve ns (round_place p q) asked x)
 
   -- ---- what isn't in the scope at all
 
@@ -205,7 +208,7 @@ module _ (p : Tree) (h : first_fault p ≡ None) (common : is_common p ≡ true)
           let (w, both) = of_language p h common typed numbered x simply n b named in
           let here : same_container n.container d ≡ true = left_or (same_container n.container d) (list_any (λ z. same_container z d) n.also) (and_second (bytes_eq n.name x) (same_container n.container d || list_any (λ z. same_container z d) n.also) j) (both.pair.also d aside.no_global) in
           let same : n.container.kind ≡ d.kind = container_kind_is n.container.kind d.kind (and_first (same_container_kind n.container.kind d.kind) (same_members n.container d n.container.members d.members) here) in
-          never (sym aside.apart ∙ ap is_apart (sym same) ∙ not-true (is_apart n.container.kind) (and_second (is_simple_sort n.sort) (not (is_apart n.container.kind)) (simply n b named)))
+          never (sym aside.apart ∙ ap is_apart (sym same) ∙ is_not_apart n (simply n b named))
         where
           left_or : (u v : Bool) → (u || v) ≡ true → v ≡ false → u ≡ true
           left_or true v i k = refl
@@ -217,13 +220,21 @@ module _ (p : Tree) (h : first_fault p ≡ None) (common : is_common p ≡ true)
     | inr e ↦ (let (d, a, i, j) = e in absurd (never (sym i ∙ nothing_aside d (f d a) asked)))
   ]
 
+  past_outer : (a b : Bool) → b ≡ true → (a || b) ≡ true
+  past_outer true b e = refl
+  past_outer false b e = e
+
+  past_first : (a b : Bool) → a ≡ true → (a || b) ≡ true
+  past_first true b e = refl
+  past_first false b e = absurd (never (sym e))
+
   -- ---- a child within the scope of a place
 
   module _ (q : Place) (entered : Among (entering q) (steps p)) (k : IsCommonPlace p q) (agree : AgreesRound q) (r : Role) (node : Node) (text : List ℕ)
       (tells : tells_inside q.node.kind r node.kind text ≡ true) (headed : tells_header q.node.kind r node.kind text ≡ true) (inside : is_inside q.node.kind r ≡ true)
       (s : OpenScope) (opener : s.opener ≡ q.node.node_id) (header : s.in_header ≡ is_in_header q.node.kind r) (opened : IsOpened (openers (steps p)) s)
       (c : Place) (c_entered : Among (entering c) (steps p)) (c_round : round_place p c ≡ containers_by q.node.kind p.source_type q.node q.path (round_place p q) node ++ round_place p q)
-      (asked : MeaningSet) (w : ℕ) (is_way : is_way_of asked w ≡ true) where
+      (asked : MeaningSet) (w : ℕ) (is_way : is_way_of asked w ≡ true) (no_value : is_past_parameter ns x node (q.node ∷ q.path) ≡ true → asked.value ≡ false) where
     abbrev group : List Container
     group = containers_by q.node.kind p.source_type q.node q.path (round_place p q) node
 
@@ -238,6 +249,9 @@ module _ (p : Tree) (h : first_fault p ≡ None) (common : is_common p ≡ true)
 
     of_seen : (m : Made) → Among m seen → Seen' m
     of_seen m a = let (b, e) = among_filter (is_seen_from s x) (made_of p) m a in seen_as p h common typed numbered x simply alone q entered k r node text tells headed inside s opener header opened c c_entered c_round m b e
+
+    abbrev Hidden : NamedDeclaration → Type 0
+    Hidden n = IsHidden p h common typed numbered x simply alone q entered k r node text tells headed inside s opener header opened c c_entered c_round n
 
     abbrev Too : NamedDeclaration → Type 0
     Too n = SeenToo p h common typed numbered x simply alone q entered k r node text tells headed inside s opener header opened c c_entered c_round n
@@ -256,10 +270,27 @@ module _ (p : Tree) (h : first_fault p ≡ None) (common : is_common p ≡ true)
     rest chain = looked_up w chain
 
     goal : (o : Option ℕ) → o ≡ looked_up w q.chain → resolve ns (group ++ outer) asked x ≡ resolve ns outer asked x → Matches w o (resolve ns (group ++ outer) asked x)
-    goal o e f = subst (λ z. Matches w z (resolve ns (group ++ outer) asked x)) (sym e) (subst (Matches w (looked_up w q.chain)) (sym f) (agree asked w is_way))
+    goal o e f = subst (λ z. Matches w z (resolve ns (group ++ outer) asked x)) (sym e) (subst (Matches w (looked_up w q.chain)) (sym f) (agree asked w is_way (λ i. no_value (past_outer (is kind.TSTypeParameterDeclaration node && list_any (is_parameter_named q.node x) ns) (is_past_parameter ns x q.node q.path) i))))
 
     abbrev Goal : Option Seen → Type 0
     Goal b = Matches w (symbol_by (lookup x w (record { scope = s.number; flags = s.flags; bound = b } ∷ map (asked_together p x) q.chain))) (resolve ns (group ++ outer) asked x)
+
+    -- where a parameter is hidden, no value is asked for
+    past_here : (n : NamedDeclaration) → Among n ns → n.name ≡ x → Hidden n → asked.value ≡ false
+    past_here n a e z = no_value (past_first (is kind.TSTypeParameterDeclaration node && list_any (is_parameter_named q.node x) ns) (is_past_parameter ns x q.node q.path)
+        (and_from (is kind.TSTypeParameterDeclaration node) (list_any (is_parameter_named q.node x) ns) z.past (any_there (is_parameter_named q.node x) ns n a
+        (and_from (is_sort sort.Parameter n) (bytes_eq n.name x && n.container.node == q.node.node_id) (ap (λ t. same_sort t sort.Parameter) z.parameter)
+        (and_from (bytes_eq n.name x) (n.container.node == q.node.node_id) (elim (name_tells n.name x) [ inl j ↦ j.0 | inr j ↦ absurd (j.1 e) ]) (eq-eqb n.container.node q.node.node_id z.stands))))))
+
+    hidden_means_none : (n : NamedDeclaration) → Hidden n → asked.value ≡ false → has_meaning asked n ≡ false
+    hidden_means_none n z e = ap (λ t. shares_meaning asked (sort_meanings t)) z.parameter ∙ none asked.value asked.is_type asked.namespace e
+      where
+        none : (a b c : Bool) → a ≡ false → ((a && true) || ((b && false) || (c && false))) ≡ false
+        none true b c i = absurd (never i)
+        none false true true i = refl
+        none false true false i = refl
+        none false false true i = refl
+        none false false false i = refl
 
     -- the scope doesn't declare it
     when_none : seen ≡ [] → Goal None
@@ -431,8 +462,11 @@ module _ (p : Tree) (h : first_fault p ≡ None) (common : is_common p ≡ true)
         | inl f ↦ elim (cases_Bool (is_usable w F)) [
           | inl u ↦ (let (m, a, g) = asked_down (asks.found u) in
               let b : Seen' m = of_seen m a in
-              let has : has_it ns asked x b.container ≡ true = any_there (has_meaning asked) (declarations_in ns b.container x) b.named (filter_among (has_declared b.container x) ns b.named b.both.named b.has) (sym (meaning_is m b.named b.both) ∙ g) in
-              absurd (never (sym has ∙ f.1 b.container b.there)))
+              let has : has_it ns asked x b.named.container ≡ true = any_there (has_meaning asked) (declarations_in ns b.named.container x) b.named (filter_among (has_declared b.named.container x) ns b.named b.both.named b.has) (sym (meaning_is m b.named b.both) ∙ g) in
+              elim b.there [
+                | inl z ↦ absurd (never (sym has ∙ f.1 b.named.container z))
+                | inr z ↦ absurd (never (sym (sym (meaning_is m b.named b.both) ∙ g) ∙ hidden_means_none b.named z (past_here b.named b.both.named b.both.named_so z)))
+              ])
           | inr u ↦ goal (symbol_by (lookup x w (record { scope = s.number; flags = s.flags; bound = Some (record { symbol = first.symbol; flags = F }) } ∷ map (asked_together p x) q.chain)))
               (next_if_unusable x w no_arguments s.number s.flags first.symbol F (map (asked_together p x) q.chain) u) f.0
         ]
@@ -463,18 +497,18 @@ module _ (p : Tree) (h : first_fault p ≡ None) (common : is_common p ≡ true)
 
   child_agrees : (q : Place) (entered : Among (entering q) (steps p)) (k : IsCommonPlace p q) (agree : AgreesRound q) (r : Role) (node : Node) (text : List ℕ)
       (tells : tells_inside q.node.kind r node.kind text ≡ true) (headed : tells_header q.node.kind r node.kind text ≡ true)
-      (chain : List OpenScope) → ChainOf q.node.kind r q.node q.chain chain → AllOpened table chain → (c : Place) → Among (entering c) (steps p) → c.chain ≡ chain
+      (chain : List OpenScope) → ChainOf q.node.kind r q.node q.chain chain → AllOpened table chain → (c : Place) → Among (entering c) (steps p) → c.chain ≡ chain → is_past_parameter ns x c.node c.path ≡ is_past_parameter ns x node (q.node ∷ q.path)
       → round_place p c ≡ containers_by q.node.kind p.source_type q.node q.path (round_place p q) node ++ round_place p q → AgreesRound c
-  child_agrees q entered k agree r node text tells headed chain (outer_chain i) opened c c_entered e c_round asked w is_way =
+  child_agrees q entered k agree r node text tells headed chain (outer_chain i) opened c c_entered e past c_round asked w is_way no_value =
       let g : List Container = containers_by q.node.kind p.source_type q.node q.path (round_place p q) node in
       let skipped : resolve ns (g ++ round_place p q) asked x ≡ resolve ns (round_place p q) asked x =
       aside_group g (round_place p q) (λ d a. aside_of p.source_type q.node node q.path (round_place p q) r q.node.kind d k.no_with i (told_by_kind q.node.kind r node.kind text tells) a) asked in
       subst (λ l. Matches w (looked_up w l) (resolve ns (round_place p c) asked x)) (sym e)
-      (subst (λ l. Matches w (looked_up w q.chain) (resolve ns l asked x)) (sym c_round) (subst (Matches w (looked_up w q.chain)) (sym skipped) (agree asked w is_way)))
-  child_agrees q entered k agree r node text tells headed chain (inner_chain s i opener header lasting) opened c c_entered e c_round asked w is_way =
+      (subst (λ l. Matches w (looked_up w q.chain) (resolve ns l asked x)) (sym c_round) (subst (Matches w (looked_up w q.chain)) (sym skipped) (agree asked w is_way (λ i. no_value (past ∙ past_outer (is kind.TSTypeParameterDeclaration node && list_any (is_parameter_named q.node x) ns) (is_past_parameter ns x q.node q.path) i)))))
+  child_agrees q entered k agree r node text tells headed chain (inner_chain s i opener header lasting) opened c c_entered e past c_round asked w is_way no_value =
       subst (λ l. Matches w (looked_up w l) (resolve ns (round_place p c) asked x)) (sym e)
       (subst (λ l. Matches w (looked_up w (s ∷ q.chain)) (resolve ns l asked x)) (sym c_round)
-      (within_scope q entered k agree r node text tells headed i s opener header opened.0 c c_entered c_round asked w is_way))
+      (within_scope q entered k agree r node text tells headed i s opener header opened.0 c c_entered c_round asked w is_way (λ i. no_value (past ∙ i))))
 
   agreed_below : (q : Place) (own : Option OpenScope) (n cursor : ℕ) (f : Forest) → Among (entering q) (steps p) → IsCommonPlace p q → AgreesRound q → OwnOf q own → is_common_forest q.node.kind f ≡ true → holds_below tells_inside q.node.kind f ≡ true → holds_below tells_header q.node.kind f ≡ true
       → EachStep Entered (steps_below q own n cursor f) → EachStep (CommonStep p) (steps_below q own n cursor f) → EachStep (IsPlaceOpened table) (steps_below q own n cursor f) → EachStep AgreedStep (steps_below q own n cursor f)
@@ -498,7 +532,7 @@ module _ (p : Tree) (h : first_fault p ≡ None) (common : is_common p ≡ true)
       (and_first (tells_header q.node.kind r k2 text) (holds_below tells_header k2 below && holds_below tells_header q.node.kind after) h)
       (child_place q turn.scope cursor r node).chain
       (chain_of q r turn.scope cursor node (not-true (is_parameter_decorator q.node.kind r) (and_first (not (is_parameter_decorator q.node.kind r)) (not decorated) undecorated)) (is_open_inside q r own n) own_is)
-      opens.whole.0 turn.child entered.whole.0 refl
+      opens.whole.0 turn.child entered.whole.0 refl refl
       (ap (λ b. cond b (outside_function (round_place p q)) (containers_by q.node.kind p.source_type q.node q.path (round_place p q) node ++ round_place p q)) plain) in
       each_of_turn AgreedStep turn (record {
         before = opening_case (EachStep AgreedStep) q r own n tt (tt, tt);
@@ -512,7 +546,7 @@ module _ (p : Tree) (h : first_fault p ≡ None) (common : is_common p ≡ true)
 
   -- outermost there is what `global` blocks declare
   root_agrees : AgreesRound (root_place p)
-  root_agrees asked w is_way = by (has_it ns asked x no_container) refl
+  root_agrees asked w is_way no_value = by (has_it ns asked x no_container) refl
     where
       by : (b : Bool) → has_it ns asked x no_container ≡ b → Matches w None (cond b (declared_in no_container (map (λ n. n.identifier) (declarations_in ns no_container x))) nowhere)
       by false e = inl refl

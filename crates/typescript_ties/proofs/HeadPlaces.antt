@@ -30,7 +30,7 @@ use Rattle.typescript_ties.specs.declared.container_kind.ContainerKind.TheVarian
 use Rattle.typescript_ties.proofs.ChildChains.{ChainOf, outer_chain, inner_chain, OwnOf, own_of, chain_of}
 use Rattle.typescript_ties.proofs.ChildPlaces.{same_truth, is_function, tells_inside, told_by_kind, tree_tells, tells_header, tree_headed}
 use Rattle.typescript_ties.proofs.GroupNodes.{stands_by}
-use Rattle.typescript_ties.proofs.Heads.{HeadOf, head_of}
+use Rattle.typescript_ties.proofs.Heads.{is_of_header, HeadOf, head_of}
 use Rattle.typescript_ties.proofs.UndeclaredFree.{OfEntered, IsEnteredIn, all_entered}
 use Rattle.typescript_ties.proofs.Unheaded.{is_unheaded, stands_unheaded, tree_unheaded, child_unheaded}
 
@@ -63,7 +63,7 @@ module _ (p : Tree) where
     pub opener : (b : Bool) → is_apart (bound_container b (round_place q)).kind ≡ false → (innermost q.chain).opener ≡ (bound_container b (round_place q)).node
     pub lasting : (b : Bool) → is_apart (bound_container b (round_place q)).kind ≡ false → (innermost q.chain).body ≡ None
     pub in_body : (b : Bool) → is_container container.Body (bound_container b (round_place q)) ≡ true → (innermost q.chain).in_header ≡ false
-    pub in_header : (b : Bool) → is_container container.TypeParameters (bound_container b (round_place q)) ≡ true → IsHeaded (innermost q.chain)
+    pub in_header : (b : Bool) → is_of_header (bound_container b (round_place q)) ≡ true → IsHeaded (innermost q.chain)
     pub among : (b : Bool) → is_apart (bound_container b (round_place q)).kind ≡ false → Among (bound_container b (round_place q)) (round_place q)
     pub origin : (c : Container) → Among c (round_place q) → (is_apart c.kind ≡ true) ⊎ HasOrigin c
 
@@ -164,9 +164,9 @@ module _ (p : Tree) where
       ]
     ]
 
-    in_header_at : (b : Bool) → is_container container.TypeParameters (head b) ≡ true → IsHeaded (innermost chain)
+    in_header_at : (b : Bool) → is_of_header (head b) ≡ true → IsHeaded (innermost chain)
     in_header_at b a = elim (heads b) [
-      | inl e ↦ kept (λ cs c. is_container container.TypeParameters c ≡ true → IsHeaded (innermost cs)) b (k.head.in_header b) e.0 e.1 a
+      | inl e ↦ kept (λ cs c. is_of_header c ≡ true → IsHeaded (innermost cs)) b (k.head.in_header b) e.0 e.1 a
       | inr e ↦ elim e [
         | inl f ↦ absurd (never (sym a ∙ f.no_header))
         | inr f ↦ own IsHeaded f.1 (λ o x y z. record {
@@ -205,7 +205,7 @@ module _ (p : Tree) where
           opener = subst (λ cs. (b : Bool) → is_apart (bound_container b cs).kind ≡ false → (innermost c.chain).opener ≡ (bound_container b cs).node) (sym same) (subst (λ ch. (b : Bool) → is_apart (head b).kind ≡ false → (innermost ch).opener ≡ (head b).node) (sym g) opener_at);
           lasting = subst (λ cs. (b : Bool) → is_apart (bound_container b cs).kind ≡ false → (innermost c.chain).body ≡ None) (sym same) (subst (λ ch. (b : Bool) → is_apart (head b).kind ≡ false → (innermost ch).body ≡ None) (sym g) lasting_at);
           in_body = subst (λ cs. (b : Bool) → is_container container.Body (bound_container b cs) ≡ true → (innermost c.chain).in_header ≡ false) (sym same) (subst (λ ch. (b : Bool) → is_container container.Body (head b) ≡ true → (innermost ch).in_header ≡ false) (sym g) in_body_at);
-          in_header = subst (λ cs. (b : Bool) → is_container container.TypeParameters (bound_container b cs) ≡ true → IsHeaded (innermost c.chain)) (sym same) (subst (λ ch. (b : Bool) → is_container container.TypeParameters (head b) ≡ true → IsHeaded (innermost ch)) (sym g) in_header_at);
+          in_header = subst (λ cs. (b : Bool) → is_of_header (bound_container b cs) ≡ true → IsHeaded (innermost c.chain)) (sym same) (subst (λ ch. (b : Bool) → is_of_header (head b) ≡ true → IsHeaded (innermost ch)) (sym g) in_header_at);
           among = subst (λ cs. (b : Bool) → is_apart (bound_container b cs).kind ≡ false → Among (bound_container b cs) cs) (sym same) among_at;
           origin = subst (λ cs. (d : Container) → Among d cs → (is_apart d.kind ≡ true) ⊎ HasOrigin d) (sym same) origin_at;
         }
@@ -271,7 +271,7 @@ module _ (p : Tree) where
       no_body true e = e
       no_body false e = e
 
-      no_header : (b : Bool) → is_container container.TypeParameters (bound_container b (round_place (root_place p))) ≡ true → false ≡ true
+      no_header : (b : Bool) → is_of_header (bound_container b (round_place (root_place p))) ≡ true → false ≡ true
       no_header true e = e
       no_header false e = e
 

@@ -15,6 +15,7 @@ pub mod OwnScopes
 pub mod ChildChains
 pub mod HeadPlaces
 pub mod Pairs
+pub mod SimpleOnes
 pub mod SimpleDeclarations
 pub mod Groups
 pub mod FitsTogether

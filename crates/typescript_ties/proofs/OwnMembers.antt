@@ -1,7 +1,7 @@
 -- A name that isn't tangled has the members to itself among which it is one.
-use Rattle.std.proofs.Common.{◌≡◌, ℕ, ◌==◌, List, [], ◌∷◌, Option, Some, None, true, false, ◌&&◌, not, refl, sym, ap, subst, ◌∙◌, inl, inr, ◌⊎◌, bytes_eq, codes, filter}
+use Rattle.std.proofs.Common.{◌≡◌, ℕ, ◌==◌, List, [], ◌∷◌, Option, Some, None, true, false, ◌&&◌, refl, sym, ap, subst, ◌∙◌, inl, inr, ◌⊎◌, bytes_eq, codes, filter}
 use Rattle.std.specs.Prelude.{slice_get}
-use Rattle.std.proofs.lemmas.Bool.{and_from, eq-eqb, not-true}
+use Rattle.std.proofs.lemmas.Bool.{and_from, eq-eqb}
 use Rattle.std.proofs.lemmas.Bool.Decides.{eqb_tells}
 use Rattle.semantic_syntax.proofs.Truth.{and_first, and_second}
 use Rattle.semantic_kinds.specs.declared.kind.AstType.TheVariants as kind
@@ -38,7 +38,7 @@ use Rattle.tangle_model.specs.Tangled.{merged_openers, is_merged_member, any_sym
 use Rattle.typescript_ties.specs.Containers.{Container, MemberPath, same_container_kind, same_names, same_members, same_container, path_below, containers}
 use Rattle.typescript_ties.specs.NamedDeclarations.{NamedDeclaration, named_in}
 use Rattle.typescript_ties.specs.SeenTogether.{is_in_scope}
-use Rattle.typescript_ties.specs.SimpleNames.{is_common, is_simple_sort, is_apart, IsSimplyDeclared, HasOwnMembers}
+use Rattle.typescript_ties.specs.SimpleNames.{is_common, is_apart, IsSimplyDeclared, HasOwnMembers}
 use Rattle.typescript_ties.specs.declared.container_kind.ContainerKind.TheVariants as container
 use Rattle.typescript_ties.proofs.AgreedPlaces.{among_filter, filter_among, any_there}
 use Rattle.typescript_ties.proofs.EnumBodies.{IsEnumOf, enum_of}
@@ -48,6 +48,7 @@ use Rattle.typescript_ties.proofs.MergedBlocks.{block_of, merged_opener, opened_
 use Rattle.typescript_ties.proofs.Pairs.{container_kind_is}
 use Rattle.typescript_ties.proofs.PlainFold.{PlainState}
 use Rattle.typescript_ties.proofs.SharedMembers.{MemberSort, unshared, of_namespace, of_module, of_globals, of_enum, member_sort}
+use Rattle.typescript_ties.proofs.SimpleOnes.{is_not_apart}
 use Rattle.typescript_ties.proofs.SimpleDeclarations.{of_language, made_so, is_plain, one_symbol, flat_among}
 use Rattle.typescript_ties.proofs.TiedTogether.{in_end}
 use Rattle.typescript_ties.proofs.UndeclaredFree.{each_among}
@@ -177,7 +178,7 @@ module _ (p : Tree) (h : first_fault p ≡ None) (common : is_common p ≡ true)
     members = and_second (same_container_kind n.container.kind c.kind) (same_members n.container c n.container.members c.members) same
 
     free : is_apart n.container.kind ≡ false
-    free = not-true (is_apart n.container.kind) (and_second (is_simple_sort n.sort) (not (is_apart n.container.kind)) (simply n a e))
+    free = is_not_apart n (simply n a e)
 
     mine : HasOrigin p n.container
     mine = (of_language p h common typed numbered x simply n a e).1.pair.home.origin

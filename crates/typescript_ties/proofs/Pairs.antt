@@ -1,8 +1,6 @@
 -- Each declaration that the tables are told with the one of the language that it is.
 use Rattle.std.proofs.Common.{◌≡◌, ℕ, suc, List, [], ◌∷◌, ◌++◌, None, Bool, true, false, ◌&&◌, ◌||◌, not, cond, map, flat_map, refl, sym, ap, subst, ◌∙◌, inl, inr, ◌⊎◌, codes, if◌then◌else◌}
 use Rattle.std.specs.List.{list_any}
-use Rattle.std.proofs.lemmas.Bool.{not-true}
-use Rattle.semantic_syntax.proofs.Truth.{and_first, and_second}
 use Rattle.semantic_kinds.specs.Kinds.{same_kind}
 use Rattle.semantic_kinds.specs.declared.kind.AstType.{AstType}
 use Rattle.semantic_kinds.specs.declared.kind.AstType.TheVariants as kind
@@ -38,9 +36,11 @@ use Rattle.typescript_ties.specs.declared.container_kind.ContainerKind.TheVarian
 use Rattle.typescript_ties.specs.declared.declaration_sort.DeclarationSort.{DeclarationSort}
 use Rattle.typescript_ties.specs.declared.declaration_sort.DeclarationSort.TheVariants as sort
 use Rattle.typescript_ties.proofs.ChildPlaces.{is_function}
+use Rattle.typescript_ties.proofs.Heads.{is_of_header}
 use Rattle.typescript_ties.proofs.HeadPlaces.{HeadAt, HasOrigin, IsHeaded, IsCommonPlace, round_place}
 use Rattle.typescript_ties.proofs.KnownPlaces.{is_bare_rest}
 use Rattle.typescript_ties.proofs.ScopeOpeners.{openers, IsOpened}
+use Rattle.typescript_ties.proofs.SimpleOnes.{sort_is_simple, is_not_apart}
 use Rattle.typescript_ties.proofs.Unheaded.{is_unheaded}
 
 never : true ≡ false → ⊥
@@ -65,7 +65,7 @@ module _ (p : Tree) where
     pub opener : w.route.target.opener ≡ n.container.node
     pub lasting : w.route.target.body ≡ None
     pub in_body : is_container container.Body n.container ≡ true → w.route.target.in_header ≡ false
-    pub in_header : is_container container.TypeParameters n.container ≡ true → IsHeaded p w.route.target
+    pub in_header : is_of_header n.container ≡ true → IsHeaded p w.route.target
     pub unheaded : (sort_meanings n.sort).namespace ≡ true → w.route.target.in_header ≡ false
     pub origin : HasOrigin p n.container
     pub opened : IsOpened (openers (steps p)) w.route.target
@@ -121,7 +121,7 @@ module _ (p : Tree) where
     own = opened_scope q count
 
     abbrev not_apart : (n : NamedDeclaration) → is_simple n ≡ true → is_apart n.container.kind ≡ false
-    not_apart n e = not-true (is_apart n.container.kind) (and_second (is_simple_sort n.sort) (not (is_apart n.container.kind)) e)
+    not_apart n e = is_not_apart n e
 
     -- what may be a namespace is declared by a node that stands in no header
     abbrev IsUnheaded : DeclarationSort → Type 0
@@ -139,7 +139,7 @@ module _ (p : Tree) where
           opener = ap (λ o. o.opener) t ∙ h.opener b free ∙ ap (λ c. c.node) (sym e);
           lasting = ap (λ o. o.body) t ∙ h.lasting b free;
           in_body = λ i. ap (λ o. o.in_header) t ∙ h.in_body b (subst (λ c. is_container container.Body c ≡ true) e i);
-          in_header = λ i. subst (IsHeaded p) (sym t) (h.in_header b (subst (λ c. is_container container.TypeParameters c ≡ true) e i));
+          in_header = λ i. subst (IsHeaded p) (sym t) (h.in_header b (subst (λ c. is_of_header c ≡ true) e i));
           unheaded = λ i. ap (λ o. o.in_header) t ∙ k.unheaded (u i);
           opened = subst (IsOpened (openers (steps p))) (sym t) head_opened;
           origin = origin_of (h.origin n.container (subst (λ c. Among c cs) (sym e) (h.among b free)));
@@ -181,20 +181,20 @@ module _ (p : Tree) where
 
     -- declared in the scope that the node opens
     own_home : (w : Declaration) (n : NamedDeclaration) → w.route.target ≡ own → n.container.node ≡ q.node.node_id → Among n.container (containers_by q.node.kind s q.node q.path cs q.node) → opens q.node.kind ≡ true → same_kind q.node.kind kind.CatchClause ≡ false
-        → is_container container.Body n.container ≡ false → (is_container container.TypeParameters n.container ≡ true → is_function q.node.kind ≡ false) → (sort_meanings n.sort).namespace ≡ false → IsAtHome w n
-    own_home w n t at among o no_clause no_body no_function no_namespace = record {
+        → is_container container.Body n.container ≡ false → (is_of_header n.container ≡ true → is_function q.node.kind ≡ false) → (sort_meanings n.sort).namespace ≡ false → IsAtHome w n
+    own_home w n t at among o no_clause no_body no_function typed = record {
       opener = ap (λ z. z.opener) t ∙ sym at;
       lasting = ap (λ z. z.body) t ∙ ap (λ b. cond b (body_number (suc count) q.node.children) None) no_clause;
       in_body = λ i. absurd (never (sym i ∙ no_body));
       in_header = λ i. record { place = q; entered = entered; opener = ap (λ z. z.opener) t; header = λ j. absurd (never (sym j ∙ no_function i)) };
-      unheaded = λ i. absurd (never (sym i ∙ no_namespace));
+      unheaded = λ i. absurd (never (sym i ∙ typed));
       opened = subst (IsOpened (openers (steps p))) (sym t) (own_opened o);
       origin = record { place = q; entered = entered; child = q.node; among = among; stands = at };
     }
 
     -- of a sort that isn't simple
     unsimple : (w : Declaration) (n : NamedDeclaration) → is_simple_sort n.sort ≡ false → told_to_tables w ≡ told_by_language n → IsPair w n
-    unsimple w n e t = record { told = t; simple = λ i. absurd (never (sym (and_first (is_simple_sort n.sort) (not (is_apart n.container.kind)) i) ∙ e)) }
+    unsimple w n e t = record { told = t; simple = λ i. absurd (never (sym (sort_is_simple n i) ∙ e)) }
 
     -- ---- row by row
 
@@ -253,6 +253,9 @@ module _ (p : Tree) where
     key_are : FlagsAre sort.MappedKey symbol.TypeParameter.bits
     key_are = record { value = refl; is_type = refl; namespace = refl; no_own = refl }
 
+    value_parameter_are : FlagsAre sort.Parameter symbol.FunctionScopedVariable.bits
+    value_parameter_are = record { value = refl; is_type = refl; namespace = refl; no_own = refl }
+
     parameter_are : FlagsAre sort.TypeParameter symbol.TypeParameter.bits
     parameter_are = record { value = refl; is_type = refl; namespace = refl; no_own = refl }
 
@@ -280,8 +283,8 @@ module _ (p : Tree) where
     parameter_pairs : (path : List Node) → (path ≡ [] → ⊥) → AllPairs (parameters_under path q) (map (named_declaration sort.Parameter (bound_container false cs) []) (bound_names q.node))
     parameter_pairs [] e = absurd (e refl)
     parameter_pairs (list ∷ path) e =
-        let w : Node → Declaration = declaration_at q.node (record { flags = symbol.FunctionScopedVariable.bits; excluded = parameter_excluded list q.chain; how = plain; route = here q.chain }) false in
-        map_pairs w (named_declaration sort.Parameter (bound_container false cs) []) (bound_names q.node) (λ id. unsimple (w id) (named_declaration sort.Parameter (bound_container false cs) [] id) refl refl)
+        map_pairs (declaration_at q.node (record { flags = symbol.FunctionScopedVariable.bits; excluded = parameter_excluded list q.chain; how = plain; route = here q.chain }) false) (named_declaration sort.Parameter (bound_container false cs) []) (bound_names q.node)
+        (pair_here symbol.FunctionScopedVariable.bits (parameter_excluded list q.chain) false sort.Parameter false [] (no_namespace (is_unheaded q.node.kind)) value_parameter_are nothing_else)
 
     catch_pairs : (patterns : List Node) → AllPairs (flat_map (catch_names q) patterns) (map (named_declaration sort.CatchName (bound_container false cs) []) (flat_map bound_names patterns))
     catch_pairs [] = tt

@@ -276,6 +276,10 @@ strict_blocks_f_simple : is_simple_name strict_blocks (codes "f") ≡ true
 unfolding encode chars
 strict_blocks_f_simple = refl
 
+generics_a_simple : is_simple_name generics (codes "a") ≡ true
+unfolding encode chars
+generics_a_simple = refl
+
 generics_T_simple : is_simple_name generics (codes "T") ≡ true
 unfolding encode chars
 generics_T_simple = refl

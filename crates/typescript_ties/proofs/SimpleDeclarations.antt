@@ -1,6 +1,5 @@
 -- The declarations of a name that is declared simply, as the tables and as the language have them.
-use Rattle.std.proofs.Common.{◌≡◌, ℕ, List, [], ◌∷◌, ◌++◌, None, Bool, true, false, not, map, flat_map, refl, sym, ap, subst, ◌∙◌, inl, inr}
-use Rattle.semantic_syntax.proofs.Truth.{and_first}
+use Rattle.std.proofs.Common.{◌≡◌, ℕ, List, [], ◌∷◌, ◌++◌, None, Bool, true, false, map, flat_map, refl, sym, ap, subst, ◌∙◌, inl, inr}
 use Rattle.semantic_kinds.specs.Kinds.{same_kind}
 use Rattle.semantic_kinds.specs.declared.kind.AstType.{AstType}
 use Rattle.semantic_kinds.specs.declared.kind.AstType.TheVariants as kind
@@ -29,12 +28,13 @@ use Rattle.binding_laws.proofs.OneSymbolEach.{one_symbol_each}
 use Rattle.typescript_ties.specs.DeclaredNames.{told_to_tables, told_by_language}
 use Rattle.typescript_ties.specs.NamedDeclarations.{NamedDeclaration, named_by_node, named_at, named_in}
 use Rattle.typescript_ties.specs.SeenTogether.{IsPlainlyDeclared}
-use Rattle.typescript_ties.specs.SimpleNames.{is_common, is_simple_sort, is_apart, is_simple, IsSimplyDeclared}
+use Rattle.typescript_ties.specs.SimpleNames.{is_common, is_simple_sort, is_simple, IsSimplyDeclared}
 use Rattle.typescript_ties.proofs.HeadPlaces.{IsCommonPlace, CommonStep, common_places}
 use Rattle.typescript_ties.proofs.KnownPlaces.{IsKnownPlace, KnownStep, known_places}
 use Rattle.typescript_ties.proofs.OwnScopes.{OwnScope, OwnStep, own_program}
 use Rattle.typescript_ties.proofs.Pairs.{IsSimplePair, AllPairs, pair_of_written, pair_of_named, pairs_by}
 use Rattle.typescript_ties.proofs.ScopeOpeners.{openers, IsOpened, IsPlaceOpened, places_opened, innermost_opened}
+use Rattle.typescript_ties.proofs.SimpleOnes.{sort_is_simple}
 use Rattle.typescript_ties.proofs.UndeclaredFree.{each_among, IsWritten, is_written, not_index, named_among}
 
 never : true ≡ false → ⊥
@@ -206,7 +206,7 @@ module _ (p : Tree) (h : first_fault p ≡ None) (common : is_common p ≡ true)
       )
     where
       no_index : (q : Place) (n : NamedDeclaration) (k : AstType) → Among n (named_by_node k p.source_type q.node q.path) → is_simple n ≡ true → same_kind k kind.TSIndexSignatureName ≡ false
-      no_index q n kind.TSIndexSignatureName (inl i) u = absurd (never (sym (subst (λ z. is_simple_sort z ≡ true) (sym (ap (λ (m : NamedDeclaration). m.sort) i)) (and_first (is_simple_sort n.sort) (not (is_apart n.container.kind)) u))))
+      no_index q n kind.TSIndexSignatureName (inl i) u = absurd (never (sym (subst (λ z. is_simple_sort z ≡ true) (sym (ap (λ (m : NamedDeclaration). m.sort) i)) (sort_is_simple n u))))
       no_index q n kind.TSIndexSignatureName (inr i) u = absurd i
       no_index q n kind.Program a u = refl
       no_index q n _ a u = refl

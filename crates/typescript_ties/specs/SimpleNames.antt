@@ -1,5 +1,6 @@
 -- Names of which tables and language are proved to agree, and where.
-use Rattle.std.specs.Prelude.{◌≡◌, ℕ, [], ◌∷◌, Bool, true, false, ◌&&◌, ◌||◌, not}
+use Rattle.std.specs.Prelude.{◌≡◌, ℕ, ◌==◌, List, [], ◌∷◌, Bool, true, false, ◌&&◌, ◌||◌, not, bytes_eq}
+use Rattle.std.specs.List.{list_any}
 use Rattle.semantic_kinds.specs.Classes.{holds_kind}
 use Rattle.semantic_kinds.specs.Kinds.{same_kind}
 use Rattle.semantic_kinds.specs.declared.kind.AstType.{AstType}
@@ -12,15 +13,16 @@ use Rattle.semantic_syntax.specs.declared.reference_flags.TheConstants.Reference
 use Rattle.semantic_tree.specs.Forest.{Forest, nothing, tree}
 use Rattle.semantic_tree.specs.Tree.{Tree}
 use Rattle.semantic_tree.specs.Views.{is}
+use Rattle.semantic_tree.specs.declared.node.Node.{Node}
 use Rattle.semantic_model.specs.Cursor.{way_or_read}
 use Rattle.semantic_model.specs.Entries.{Among}
 use Rattle.semantic_model.specs.Inside.{is_parameter_decorator}
 use Rattle.semantic_model.specs.Place.{Place}
 use Rattle.semantic_model.specs.Step.{entering, steps}
 use Rattle.typescript_ties.specs.AskedMeanings.{asked_by_reference}
-use Rattle.typescript_ties.specs.Containers.{Container, same_container, containers}
+use Rattle.typescript_ties.specs.Containers.{Container, is_container, same_container, containers}
 use Rattle.typescript_ties.specs.MeaningSets.{MeaningSet}
-use Rattle.typescript_ties.specs.NamedDeclarations.{NamedDeclaration, named_in}
+use Rattle.typescript_ties.specs.NamedDeclarations.{NamedDeclaration, is_sort, named_in}
 use Rattle.typescript_ties.specs.declared.container_kind.ContainerKind.{ContainerKind}
 use Rattle.typescript_ties.specs.declared.container_kind.ContainerKind.TheVariants as container
 use Rattle.typescript_ties.specs.declared.declaration_sort.DeclarationSort.{DeclarationSort}
@@ -38,10 +40,11 @@ is_common_forest k (tree r k2 span text marks below id after) = is_common_child 
 abbrev pub is_common : Tree → Bool
 is_common p = is_common_forest p.root.kind p.root.children
 
--- lexical, a type or class, an enum or its member, a namespace, an import, a type parameter, the key of a mapped type, or a function that stays where it stands
+-- lexical, a parameter, a type or class, an enum or its member, a namespace, an import, a type parameter, the key of a mapped type, or a function that stays where it stands
 abbrev pub is_simple_sort : DeclarationSort → Bool
 is_simple_sort sort.Lexical = true
 is_simple_sort sort.Function = true
+is_simple_sort sort.Parameter = true
 is_simple_sort sort.Class = true
 is_simple_sort sort.Import = true
 is_simple_sort sort.TypeImport = true
@@ -55,20 +58,23 @@ is_simple_sort sort.TypeNamespace = true
 is_simple_sort sort.ValueNamespace = true
 is_simple_sort _ = false
 
--- what has no names but by `infer`, index signatures, parameters, catch clauses and the own names of expressions, and what is global beside the file
+-- what has no names but by `infer`, index signatures, catch clauses and the own names of expressions, and what is global beside the file
 abbrev pub is_apart : ContainerKind → Bool
 is_apart container.Globals = true
 is_apart container.Inferred = true
 is_apart container.Condition = true
 is_apart container.Infer = true
 is_apart container.IndexSignature = true
-is_apart container.Parameters = true
 is_apart container.OwnName = true
 is_apart container.CatchClause = true
 is_apart _ = false
 
+-- among parameters stand parameters alone
+abbrev pub stands_with_parameters : NamedDeclaration → Bool
+stands_with_parameters d = not (is_container container.Parameters d.container) || is_sort sort.Parameter d
+
 abbrev pub is_simple : NamedDeclaration → Bool
-is_simple d = is_simple_sort d.sort && not (is_apart d.container.kind)
+is_simple d = is_simple_sort d.sort && (not (is_apart d.container.kind) && stands_with_parameters d)
 
 -- the name is declared only so
 abbrev pub IsSimplyDeclared : Tree → Name → Type 0
@@ -97,7 +103,22 @@ abbrev pub AsksItsWays : Tree → Name → Type 0
 AsksItsWays p x =
     (q : Place) → Among (entering q) (steps p) → is kind.IdentifierReference q.node ≡ true → q.node.text ≡ x → is_way_of (asked_by_reference q.path) (way_or_read q.cursor) ≡ true
 
--- both
+-- a parameter of the name that the node has
+abbrev pub is_parameter_named : Node → Name → NamedDeclaration → Bool
+is_parameter_named f name d = is_sort sort.Parameter d && (bytes_eq d.name name && d.container.node == f.node_id)
+
+-- whether a node stands in the type parameters of something that has a parameter of the name: there the language doesn't see it
+abbrev pub is_past_parameter : List NamedDeclaration → Name → Node → List Node → Bool
+is_past_parameter ds name child [] = false
+is_past_parameter ds name child (f ∷ path) = (is kind.TSTypeParameterDeclaration child && list_any (is_parameter_named f name) ds) || is_past_parameter ds name f path
+
+-- no reference of the name asks for a value there, as in `<T extends typeof a>(a: T)`
+abbrev pub AsksPastNoParameter : Tree → Name → Type 0
+AsksPastNoParameter p x =
+    (q : Place) → Among (entering q) (steps p) → is kind.IdentifierReference q.node ≡ true → q.node.text ≡ x → is_past_parameter (named_in p) x q.node q.path ≡ true → (asked_by_reference q.path).value ≡ false
+
+-- all of that
 pub record IsSimpleName (p : Tree) (x : Name) : Type 0 where
   pub simply : IsSimplyDeclared p x
   pub ways : AsksItsWays p x
+  pub parameters : AsksPastNoParameter p x

@@ -1,5 +1,5 @@
 -- Whether a name is simple, tried on all declarations and references of a program.
-use Rattle.std.specs.Prelude.{Bool, true, ◌&&◌, ◌||◌, not, bytes_eq}
+use Rattle.std.specs.Prelude.{List, Bool, true, ◌&&◌, ◌||◌, not, bytes_eq}
 use Rattle.std.specs.List.{list_all}
 use Rattle.semantic_kinds.specs.declared.kind.AstType.TheVariants as kind
 use Rattle.semantic_syntax.specs.Tables.{Name}
@@ -9,17 +9,21 @@ use Rattle.semantic_model.specs.Cursor.{way_or_read}
 use Rattle.semantic_model.specs.Place.{Place}
 use Rattle.semantic_model.specs.Step.{Step, entering, steps}
 use Rattle.typescript_ties.specs.AskedMeanings.{asked_by_reference}
-use Rattle.typescript_ties.specs.NamedDeclarations.{named_in}
-use Rattle.typescript_ties.specs.SimpleNames.{is_simple, is_way_of}
+use Rattle.typescript_ties.specs.NamedDeclarations.{NamedDeclaration, named_in}
+use Rattle.typescript_ties.specs.SimpleNames.{is_simple, is_way_of, is_past_parameter}
 
 -- a reference asks for what its place asks for
 abbrev pub asks_its_way : Name → Place → Bool
 asks_its_way x q = not (is kind.IdentifierReference q.node && bytes_eq q.node.text x) || is_way_of (asked_by_reference q.path) (way_or_read q.cursor)
 
-abbrev pub asks_at : Name → Step → Bool
-asks_at x (entering q) = asks_its_way x q
-asks_at x _ = true
+-- and for no value past a parameter
+abbrev pub asks_past_none : List NamedDeclaration → Name → Place → Bool
+asks_past_none ds x q = not ((is kind.IdentifierReference q.node && bytes_eq q.node.text x) && is_past_parameter ds x q.node q.path) || not (asked_by_reference q.path).value
+
+abbrev pub asks_at : List NamedDeclaration → Name → Step → Bool
+asks_at ds x (entering q) = asks_its_way x q && asks_past_none ds x q
+asks_at ds x _ = true
 
 -- whether the name is simple
 abbrev pub is_simple_name : Tree → Name → Bool
-is_simple_name p x = list_all (λ d. not (bytes_eq d.name x) || is_simple d) (named_in p) && list_all (asks_at x) (steps p)
+is_simple_name p x = list_all (λ d. not (bytes_eq d.name x) || is_simple d) (named_in p) && list_all (asks_at (named_in p) x) (steps p)
