@@ -206,7 +206,7 @@ module _ (p : Tree) (h : first_fault p ≡ None) (common : is_common p ≡ true)
           let (w, both) = of_language p h common typed numbered x simply n b named in
           let here : same_container n.container d ≡ true = left_or (same_container n.container d) (list_any (λ z. same_container z d) n.also) (and_second (bytes_eq n.name x) (same_container n.container d || list_any (λ z. same_container z d) n.also) j) (both.pair.also d aside.no_global) in
           let same : n.container.kind ≡ d.kind = container_kind_is n.container.kind d.kind (and_first (same_container_kind n.container.kind d.kind) (same_members n.container d n.container.members d.members) here) in
-          never (sym aside.apart ∙ ap is_apart (sym same) ∙ is_not_apart n (simply n b named))
+          never (sym aside.apart ∙ ap is_apart (sym same) ∙ is_not_apart n (simply.each n b named))
         where
           left_or : (u v : Bool) → (u || v) ≡ true → v ≡ false → u ≡ true
           left_or true v i k = refl
@@ -411,7 +411,7 @@ module _ (p : Tree) (h : first_fault p ≡ None) (common : is_common p ≡ true)
           in_header_none : s.in_header ≡ true → {m : Made} → (b : Seen' m) → (sort_meanings b.named.sort).namespace ≡ false
           in_header_none i b = elim b.there [
             | inr z ↦ ap (λ z. (sort_meanings z).namespace) z.parameter
-            | inl z ↦ (let is_so : is_simple b.named ≡ true = simply b.named b.both.named b.both.named_so in
+            | inl z ↦ (let is_so : is_simple b.named ≡ true = simply.each b.named b.both.named b.both.named_so in
                 let one : is_of_header b.named.container ≡ true = in_header_only p h common typed numbered x simply alone q entered k r node text tells headed inside s opener header opened c c_entered c_round i b.named.container z (is_not_apart b.named is_so) in
                 elim (or_cases (is_container container.TypeParameters b.named.container) (is_container container.Parameters b.named.container) one) [
                   | inl t ↦ ap (λ z. (sort_meanings z).namespace) (types b.named b.both.named b.both.named_so t)

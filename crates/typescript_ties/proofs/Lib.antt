@@ -5,6 +5,9 @@ pub mod DeclaredAlike
 pub mod UndeclaredFree
 pub mod OtherNames
 pub mod PlainFold
+pub mod LikeFlags
+pub mod ClearFold
+pub mod ClearTies
 pub mod TiedTogether
 pub mod ChildPlaces
 pub mod Heads
@@ -12,6 +15,8 @@ pub mod EnteredOnce
 pub mod ScopeOpeners
 pub mod ChildChains
 pub mod HeadPlaces
+pub mod VarPlaces
+pub mod VarRoutes
 pub mod Pairs
 pub mod SimpleOnes
 pub mod SimpleDeclarations
