@@ -208,7 +208,7 @@ module _ (p : Tree) (h : first_fault p ≡ None) (common : is_common p ≡ true)
           let (w, both) = of_language p h common typed numbered x simply n b named in
           let here : same_container n.container d ≡ true = left_or (same_container n.container d) (list_any (λ z. same_container z d) n.also) (and_second (bytes_eq n.name x) (same_container n.container d || list_any (λ z. same_container z d) n.also) j) (both.pair.also d aside.no_global) in
           let same : n.container.kind ≡ d.kind = container_kind_is n.container.kind d.kind (and_first (same_container_kind n.container.kind d.kind) (same_members n.container d n.container.members d.members) here) in
-          never (sym aside.apart ∙ ap is_apart (sym same) ∙ is_not_apart n (simply n b named))
+          never (sym aside.apart ∙ ap is_apart (sym same) ∙ is_not_apart n (simply.each n b named))
         where
           left_or : (u v : Bool) → (u || v) ≡ true → v ≡ false → u ≡ true
           left_or true v i k = refl

@@ -5,6 +5,9 @@ pub mod DeclaredAlike
 pub mod UndeclaredFree
 pub mod OtherNames
 pub mod PlainFold
+pub mod LikeFlags
+pub mod ClearFold
+pub mod ClearTies
 pub mod TiedTogether
 pub mod ChildPlaces
 pub mod Unheaded
@@ -14,6 +17,8 @@ pub mod ScopeOpeners
 pub mod OwnScopes
 pub mod ChildChains
 pub mod HeadPlaces
+pub mod VarPlaces
+pub mod VarRoutes
 pub mod Pairs
 pub mod SimpleOnes
 pub mod SimpleDeclarations

@@ -1,7 +1,7 @@
 -- A name that isn't tangled has the members to itself among which it is one.
-use Rattle.std.proofs.Common.{◌≡◌, ℕ, ◌==◌, List, [], ◌∷◌, Option, Some, None, true, false, ◌&&◌, refl, sym, ap, subst, ◌∙◌, inl, inr, ◌⊎◌, bytes_eq, codes, filter}
+use Rattle.std.proofs.Common.{◌≡◌, ℕ, ◌==◌, [], ◌∷◌, Option, Some, None, true, false, ◌&&◌, refl, sym, ap, subst, ◌∙◌, inl, inr, ◌⊎◌, bytes_eq, codes, List}
 use Rattle.std.specs.Prelude.{slice_get}
-use Rattle.std.proofs.lemmas.Bool.{and_from, eq-eqb}
+use Rattle.std.proofs.lemmas.Bool.{and_from}
 use Rattle.std.proofs.lemmas.Bool.Decides.{eqb_tells}
 use Rattle.semantic_syntax.proofs.Truth.{and_first, and_second}
 use Rattle.semantic_kinds.specs.declared.kind.AstType.TheVariants as kind
@@ -15,42 +15,34 @@ use Rattle.semantic_tree.specs.Faults.{first_fault}
 use Rattle.semantic_tree.specs.Tree.{Tree, IsNumbered}
 use Rattle.semantic_tree.specs.Views.{child_of}
 use Rattle.semantic_tree.specs.declared.node.Node.{Node}
-use Rattle.semantic_model.specs.Binding.{get}
-use Rattle.semantic_model.specs.Declaration.{Declaration}
 use Rattle.semantic_model.specs.Entries.{Among}
 use Rattle.semantic_model.specs.Event.{events}
-use Rattle.semantic_model.specs.Fold.{State, Made, start, flags_of}
+use Rattle.semantic_model.specs.Fold.{State, start}
 use Rattle.semantic_model.specs.Hoist.{run}
 use Rattle.semantic_model.specs.Place.{Place}
 use Rattle.semantic_model.specs.Step.{entering, steps}
-use Rattle.semantic_model.specs.TablesOf.{tables_of, evals, made_of}
-use Rattle.semantic_model.specs.Tie.{seen_as}
+use Rattle.semantic_model.specs.TablesOf.{tables_of, evals}
 use Rattle.semantic_model.proofs.bindings.Owned.{kept_program}
 use Rattle.semantic_model.proofs.bindings.Owners.{IsSymbolOf}
 use Rattle.semantic_model.proofs.form.Shape.{has_form}
 use Rattle.semantic_model.proofs.lists.BindingLaws.{get_among}
 use Rattle.semantic_model.proofs.lists.Members.{among_at}
 use Rattle.semantic_model.proofs.once.ListedUnder.{name_tells}
-use Rattle.binding_laws.specs.SeenDeclarations.{bound_by_all}
 use Rattle.tangle_model.specs.Mention.{Mention, noted_by, noted_at, mentions}
 use Rattle.tangle_model.specs.Surroundings.{around_under}
 use Rattle.tangle_model.specs.Tangled.{merged_openers, is_merged_member, any_symbol}
 use Rattle.typescript_ties.specs.Containers.{Container, MemberPath, same_container_kind, same_names, same_members, same_container, path_below, containers}
 use Rattle.typescript_ties.specs.NamedDeclarations.{NamedDeclaration, named_in}
-use Rattle.typescript_ties.specs.SeenTogether.{is_in_scope}
 use Rattle.typescript_ties.specs.SimpleNames.{is_common, is_apart, IsSimplyDeclared, HasOwnMembers}
 use Rattle.typescript_ties.specs.declared.container_kind.ContainerKind.TheVariants as container
-use Rattle.typescript_ties.proofs.AgreedPlaces.{among_filter, filter_among, any_there}
+use Rattle.typescript_ties.proofs.AgreedPlaces.{any_there}
 use Rattle.typescript_ties.proofs.EnumBodies.{IsEnumOf, enum_of}
-use Rattle.typescript_ties.proofs.FitsTogether.{AreBoundAs, bound_as_one}
 use Rattle.typescript_ties.proofs.HeadPlaces.{HasOrigin, CommonStep, common_places, round_place}
 use Rattle.typescript_ties.proofs.MergedBlocks.{block_of, merged_opener, opened_node}
 use Rattle.typescript_ties.proofs.Pairs.{container_kind_is}
-use Rattle.typescript_ties.proofs.PlainFold.{PlainState}
 use Rattle.typescript_ties.proofs.SharedMembers.{MemberSort, unshared, of_namespace, of_module, of_globals, of_enum, member_sort}
 use Rattle.typescript_ties.proofs.SimpleOnes.{is_not_apart}
-use Rattle.typescript_ties.proofs.SimpleDeclarations.{of_language, made_so, is_plain, one_symbol, flat_among}
-use Rattle.typescript_ties.proofs.TiedTogether.{in_end}
+use Rattle.typescript_ties.proofs.SimpleDeclarations.{of_language, made_so, clear_state, flat_among}
 use Rattle.typescript_ties.proofs.UndeclaredFree.{each_among}
 
 never : true ≡ false → ⊥
@@ -83,9 +75,6 @@ module _ (p : Tree) (h : first_fault p ≡ None) (common : is_common p ≡ true)
   abbrev final : State
   final = run start (events (steps p))
 
-  plain : PlainState x final
-  plain = in_end p h x (is_plain p h common typed numbered x simply)
-
   -- the symbol of a declaration is one of the scope that its container's node opens
   record IsOf (node : ℕ) : Type 0 where
     symbol : Symbol
@@ -100,7 +89,7 @@ module _ (p : Tree) (h : first_fault p ≡ None) (common : is_common p ≡ true)
       let (y, made) = made_so p h common typed numbered x simply d both.among in
       let c : ℕ = d.route.target.number in
       let named : d.naming.name ≡ x = ap (λ t. t.name) both.told ∙ e in
-      let w : IsSymbolOf final.symbols c x y = (kept_program p (has_form p h)).owned (record { scope = c; name = x; symbol = y }) (get_among final.bindings c x y (bound_own d y made named)) in
+      let w : IsSymbolOf final.symbols c x y = (kept_program p (has_form p h)).owned (record { scope = c; name = x; symbol = y }) (get_among final.bindings c x y ((clear_state p h common typed numbered x simply).same (record { declaration = d; symbol = y }) made named)) in
       record {
         symbol = w.symbol;
         number = y;
@@ -108,33 +97,6 @@ module _ (p : Tree) (h : first_fault p ≡ None) (common : is_common p ≡ true)
         named = w.named;
         stands = ap (λ z. (scope_of (tables_of p) z).node) w.stands ∙ opened_node (evals (steps p)) (steps p) c d.route.target.opener both.opened ∙ both.pair.home.opener;
       }
-    where
-      bound_own : (d : Declaration) (y : ℕ) → Among (record { declaration = d; symbol = y }) (made_of p) → d.naming.name ≡ x → get final.bindings d.route.target.number x ≡ Some y
-      bound_own d y a named = by (filter (is_in_scope c x) (made_of p)) refl (get final.bindings c x) (plain.counted c)
-        where
-          c : ℕ
-          c = d.route.target.number
-
-          all_one : (z : Made) → Among z (filter (is_in_scope c x) (made_of p)) → z.symbol ≡ y
-          all_one z b =
-              let (i, j) = among_filter (is_in_scope c x) (made_of p) z b in
-              let number : z.declaration.route.target.number ≡ c = elim (eqb_tells z.declaration.route.target.number c) [ inl k ↦ k.1 | inr k ↦ absurd (never (sym (and_first (z.declaration.route.target.number == c) (bytes_eq z.declaration.naming.name x) j) ∙ k.0)) ] in
-              let z_named : z.declaration.naming.name ≡ x = elim (name_tells z.declaration.naming.name x) [ inl k ↦ k.1 | inr k ↦ absurd (never (sym (and_second (z.declaration.route.target.number == c) (bytes_eq z.declaration.naming.name x) j) ∙ k.0)) ] in
-              one_symbol p h common typed numbered x simply z (record { declaration = d; symbol = y }) i a z_named named number
-
-          own_there : Among {A = Made} (record { declaration = d; symbol = y }) (filter (is_in_scope c x) (made_of p))
-          own_there = filter_among (is_in_scope c x) (made_of p) (record { declaration = d; symbol = y }) a (and_from (c == c) (bytes_eq d.naming.name x) (eq-eqb c c refl) (elim (name_tells d.naming.name x) [ inl j ↦ j.0 | inr j ↦ absurd (j.1 named) ]))
-
-          of_seen : (o : Option ℕ) (f : ℕ) → seen_as final o ≡ Some (record { symbol = y; flags = f }) → o ≡ Some y
-          of_seen None f j = absurd cc
-          of_seen (Some v) f j = ap Some (ap (λ (s : Seen). s.symbol) (seen_is (record { symbol = v; flags = flags_of final v }) (record { symbol = y; flags = f }) j))
-
-          by : (l : List Made) → filter (is_in_scope c x) (made_of p) ≡ l → (o : Option ℕ) → seen_as final o ≡ bound_by_all (filter (is_in_scope c x) (made_of p)) → o ≡ Some y
-          by [] e o i = absurd (subst (Among {A = Made} (record { declaration = d; symbol = y })) e own_there)
-          by (z ∷ zs) e o i =
-              let all : (v : Made) → Among v (z ∷ zs) → v.symbol ≡ y = λ v b. all_one v (subst (Among v) (sym e) b) in
-              let together : AreBoundAs (z ∷ zs) y = bound_as_one z zs y all in
-              of_seen o together.flags (i ∙ ap bound_by_all e ∙ together.bound)
 
   -- so two blocks of one name are one where they have it
   same_block : (node other : ℕ) (name : Name) → IsOf node → Among (block_of node name) (mentions p) → Among (block_of other name) (mentions p) → node ≡ other
@@ -178,7 +140,7 @@ module _ (p : Tree) (h : first_fault p ≡ None) (common : is_common p ≡ true)
     members = and_second (same_container_kind n.container.kind c.kind) (same_members n.container c n.container.members c.members) same
 
     free : is_apart n.container.kind ≡ false
-    free = is_not_apart n (simply n a e)
+    free = is_not_apart n (simply.each n a e)
 
     mine : HasOrigin p n.container
     mine = (of_language p h common typed numbered x simply n a e).1.pair.home.origin

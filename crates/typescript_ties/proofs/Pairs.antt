@@ -14,7 +14,7 @@ use Rattle.semantic_tree.specs.Tree.{Tree}
 use Rattle.semantic_tree.specs.Views.{is, is_with_text, has, children_of}
 use Rattle.semantic_tree.specs.declared.node.Node.{Node}
 use Rattle.semantic_model.specs.Binder.{BinderRow, declaration_at, ambient_if, is_var, is_special, is_statement, lexical_flags, variable_row, variables_under, is_pure_declarator, is_block_function, is_clause, is_conditional, function_excluded, class_row, parameter_excluded, parameters_under, catch_names, marked_ambient, member_named, namespace_row, type_parameter_row, ids, declared_by, declared_inside}
-use Rattle.semantic_model.specs.Declaration.{Declaration, plain, hoisted, moved, caught, here, outward_to, outward_past}
+use Rattle.semantic_model.specs.Declaration.{Declaration, Route, plain, hoisted, moved, caught, here, passed_before, route_from, outward_to, outward_past}
 use Rattle.semantic_model.specs.Entries.{Among}
 use Rattle.semantic_model.specs.Inside.{opens, body_number}
 use Rattle.semantic_model.specs.Names.{bound_names, bound_below, names_at}
@@ -30,8 +30,8 @@ use Rattle.typescript_ties.specs.declared.container_kind.ContainerKind.{Containe
 use Rattle.typescript_ties.specs.Containers.{Container, is_container, same_container_kind, same_container, container_of, bound_container, is_exported_under, containers_by}
 use Rattle.typescript_ties.specs.DeclaredNames.{told_to_tables, told_by_language}
 use Rattle.typescript_ties.specs.MeaningSets.{sort_meanings}
-use Rattle.typescript_ties.specs.NamedDeclarations.{NamedDeclaration, named_declaration, global_besides, declared_here, imported_as, declared_outward, variables_named, leaves_its_block, namespace_sort, first_condition, named_by_node}
-use Rattle.typescript_ties.specs.SimpleNames.{is_simple_sort, is_apart, is_simple}
+use Rattle.typescript_ties.specs.NamedDeclarations.{NamedDeclaration, named_declaration, global_besides, declared_here, imported_as, from_first_taking, declared_outward, variables_named, leaves_its_block, namespace_sort, first_condition, named_by_node}
+use Rattle.typescript_ties.specs.SimpleNames.{is_simple_sort, is_apart, is_simple, before_first_taking}
 use Rattle.typescript_ties.specs.declared.container_kind.ContainerKind.TheVariants as container
 use Rattle.typescript_ties.specs.declared.declaration_sort.DeclarationSort.{DeclarationSort}
 use Rattle.typescript_ties.specs.declared.declaration_sort.DeclarationSort.TheVariants as sort
@@ -39,7 +39,10 @@ use Rattle.typescript_ties.proofs.ChildPlaces.{is_function}
 use Rattle.typescript_ties.proofs.Heads.{is_of_header}
 use Rattle.typescript_ties.proofs.HeadPlaces.{HeadAt, HasOrigin, IsHeaded, IsCommonPlace, round_place}
 use Rattle.typescript_ties.proofs.KnownPlaces.{is_bare_rest}
-use Rattle.typescript_ties.proofs.ScopeOpeners.{openers, IsOpened}
+use Rattle.typescript_ties.proofs.LikeFlags.{IsVariable}
+use Rattle.typescript_ties.proofs.VarPlaces.{is_statement_kind}
+use Rattle.typescript_ties.proofs.VarRoutes.{TakesIn, StandsWell}
+use Rattle.typescript_ties.proofs.ScopeOpeners.{openers, IsOpened, AllOpened, among_opened}
 use Rattle.typescript_ties.proofs.SimpleOnes.{sort_is_simple, is_not_apart}
 use Rattle.typescript_ties.proofs.Unheaded.{is_unheaded}
 
@@ -48,6 +51,11 @@ never h = absurd cc
 
 pub container_kind_is : (a b : ContainerKind) → same_container_kind a b ≡ true → a ≡ b
 container_kind_is a b h = same_true the_container_kinds tt a b h
+
+pub map_among : {A B : Type 0} → (g : A → B) (xs : List A) (x : A) → Among x xs → Among (g x) (map g xs)
+map_among g [] x a = absurd a
+map_among g (z ∷ xs) x (inl e) = inl (ap g e)
+map_among g (z ∷ xs) x (inr a) = inr (map_among g xs x a)
 
 -- the flags of a sort
 pub record FlagsAre (k : DeclarationSort) (flags : ℕ) : Type 0 where
@@ -70,8 +78,20 @@ module _ (p : Tree) where
     pub origin : HasOrigin p n.container
     pub opened : IsOpened (openers (steps p)) w.route.target
 
+  -- a scope round a variable's place stands for a container that the variable passes
+  pub record IsPassedAs (q : Place) (z : OpenScope) : Type 0 where
+    pub around : Among z q.chain
+    pub container : Container
+    pub among : Among container (before_first_taking (round_place p q))
+    pub stands : container.node ≡ z.opener
+
+  -- how the declaration comes to its symbol: in its scope, or as `var` does
+  pub data WayOf (w : Declaration) (n : NamedDeclaration) : Type 0 where
+    stays : w.how ≡ plain → WayOf w n
+    goes_out : w.how ≡ hoisted → IsVariable w → n.sort ≡ sort.Var → (q : Place) → Among (entering q) (steps p) → Among n (named_by_node q.node.kind s q.node q.path) → ((z : OpenScope) → Among z w.route.passed → IsPassedAs q z) → WayOf w n
+
   pub record IsSimplePair (w : Declaration) (n : NamedDeclaration) : Type 0 where
-    pub how : w.how ≡ plain
+    pub how : WayOf w n
     pub flags : FlagsAre n.sort w.naming.flags
     pub home : IsAtHome w n
     pub also : (c : Container) → same_container_kind container.Globals c.kind ≡ false → list_any (λ e. same_container e c) n.also ≡ false
@@ -88,6 +108,10 @@ module _ (p : Tree) where
   map_pairs : (f : Node → Declaration) (g : Node → NamedDeclaration) (names : List Node) → ((id : Node) → IsPair (f id) (g id)) → AllPairs (map f names) (map g names)
   map_pairs f g [] h = tt
   map_pairs f g (x ∷ xs) h = (h x, map_pairs f g xs h)
+
+  map_pairs_among : (f : Node → Declaration) (g : Node → NamedDeclaration) (names : List Node) → ((id : Node) → Among id names → IsPair (f id) (g id)) → AllPairs (map f names) (map g names)
+  map_pairs_among f g [] h = tt
+  map_pairs_among f g (x ∷ xs) h = (h x (inl refl), map_pairs_among f g xs (λ id a. h id (inr a)))
 
   join_pairs : (ws us : List Declaration) (ns vs : List NamedDeclaration) → AllPairs ws ns → AllPairs us vs → AllPairs (ws ++ us) (ns ++ vs)
   join_pairs [] us [] vs h k = k
@@ -112,8 +136,8 @@ module _ (p : Tree) where
 
   -- ---- one place
 
-  module _ (q : Place) (entered : Among (entering q) (steps p)) (k : IsCommonPlace p q) (typed : is_typescript s ≡ true) (count : ℕ)
-      (head_opened : IsOpened (openers (steps p)) (innermost q.chain)) (own_opened : opens q.node.kind ≡ true → IsOpened (openers (steps p)) (opened_scope q count)) where
+  module _ (q : Place) (entered : Among (entering q) (steps p)) (k : IsCommonPlace p q) (well : StandsWell p q) (typed : is_typescript s ≡ true) (count : ℕ)
+      (chain_opened : AllOpened (openers (steps p)) q.chain) (head_opened : IsOpened (openers (steps p)) (innermost q.chain)) (own_opened : opens q.node.kind ≡ true → IsOpened (openers (steps p)) (opened_scope q count)) where
     abbrev cs : List Container
     cs = round_place p q
 
@@ -122,6 +146,10 @@ module _ (p : Tree) where
 
     abbrev not_apart : (n : NamedDeclaration) → is_simple n ≡ true → is_apart n.container.kind ≡ false
     not_apart n e = is_not_apart n e
+
+    origin_of : (c : Container) → is_apart c.kind ≡ false → (is_apart c.kind ≡ true) ⊎ HasOrigin p c → HasOrigin p c
+    origin_of c a (inl i) = absurd (never (sym i ∙ a))
+    origin_of c a (inr o) = o
 
     -- what may be a namespace is declared by a node that stands in no header
     abbrev IsUnheaded : DeclarationSort → Type 0
@@ -142,18 +170,14 @@ module _ (p : Tree) where
           in_header = λ i. subst (IsHeaded p) (sym t) (h.in_header b (subst (λ c. is_of_header c ≡ true) e i));
           unheaded = λ i. ap (λ o. o.in_header) t ∙ k.unheaded (u i);
           opened = subst (IsOpened (openers (steps p))) (sym t) head_opened;
-          origin = origin_of (h.origin n.container (subst (λ c. Among c cs) (sym e) (h.among b free)));
+          origin = origin_of n.container a (h.origin n.container (subst (λ c. Among c cs) (sym e) (h.among b free)));
         }
-      where
-        origin_of : (is_apart n.container.kind ≡ true) ⊎ HasOrigin p n.container → HasOrigin p n.container
-        origin_of (inl i) = absurd (never (sym i ∙ a))
-        origin_of (inr o) = o
 
     pair_here : (flags excluded : ℕ) (pure : Bool) (j : DeclarationSort) (b : Bool) (also : List Container) → IsUnheaded j → FlagsAre j flags → ((c : Container) → same_container_kind container.Globals c.kind ≡ false → list_any (λ e. same_container e c) also ≡ false) → (id : Node)
         → IsPair (declaration_at q.node (record { flags = flags; excluded = excluded; how = plain; route = here q.chain }) pure id) (named_declaration j (bound_container b cs) also id)
     pair_here flags excluded pure j b also u f g id = record {
       told = refl;
-      simple = λ e. record { how = refl; flags = f; home = at_head (declaration_at q.node (record { flags = flags; excluded = excluded; how = plain; route = here q.chain }) pure id) (named_declaration j (bound_container b cs) also id) b refl refl (not_apart (named_declaration j (bound_container b cs) also id) e) u; also = g };
+      simple = λ e. record { how = stays refl; flags = f; home = at_head (declaration_at q.node (record { flags = flags; excluded = excluded; how = plain; route = here q.chain }) pure id) (named_declaration j (bound_container b cs) also id) b refl refl (not_apart (named_declaration j (bound_container b cs) also id) e) u; also = g };
     }
 
     nothing_else : (c : Container) → same_container_kind container.Globals c.kind ≡ false → list_any (λ e. same_container e c) [] ≡ false
@@ -200,6 +224,10 @@ module _ (p : Tree) where
 
     abbrev Paired : AstType → Type 0
     Paired j = AllPairs (declared_inside j q own ++ declared_by j q) (named_by_node j s q.node q.path)
+
+    variable_are : (a : Bool) → FlagsAre sort.Var (union symbol.FunctionScopedVariable.bits (ambient_if a))
+    variable_are true = record { value = refl; is_type = refl; namespace = refl; no_own = refl }
+    variable_are false = record { value = refl; is_type = refl; namespace = refl; no_own = refl }
 
     lexical_are : (t a : Bool) → FlagsAre sort.Lexical (union (cond t symbol.BlockScopedVariable.bits (union symbol.BlockScopedVariable.bits symbol.ConstVariable.bits)) (ambient_if a))
     lexical_are true true = record { value = refl; is_type = refl; namespace = refl; no_own = refl }
@@ -259,10 +287,67 @@ module _ (p : Tree) where
     parameter_are : FlagsAre sort.TypeParameter symbol.TypeParameter.bits
     parameter_are = record { value = refl; is_type = refl; namespace = refl; no_own = refl }
 
-    variable_pairs : (path : List Node) → q.path ≡ path → AllPairs (variables_under path q) (variables_named s q.node path)
-    variable_pairs [] e = tt
-    variable_pairs (declaration ∷ path) e = subst (λ l. AllPairs (map (declaration_at q.node (variable_row declaration q.chain) (is_pure_declarator q.node)) (bound_names q.node)) (map (cond var (declared_outward sort.Var s q.node l) (declared_here sort.Lexical s q.node l)) (bound_names q.node))) e
-        (map_pairs (declaration_at q.node (variable_row declaration q.chain) (is_pure_declarator q.node)) (cond var (declared_outward sort.Var s q.node q.path) (declared_here sort.Lexical s q.node q.path)) (bound_names q.node) (by var))
+    passed_in : (chain : List OpenScope) (z : OpenScope) → Among z (passed_before is_var chain) → Among z chain
+    passed_in [] z a = absurd a
+    passed_in (o ∷ os) z a = go (is_var o) (passed_in os z) a
+      where
+        go : (b : Bool) → (Among z (passed_before is_var os) → Among z os) → Among z (cond b [] (o ∷ passed_before is_var os)) → Among z (o ∷ os)
+        go true later i = absurd i
+        go false later (inl i) = inl i
+        go false later (inr i) = inr (later i)
+
+    -- by `var`, in the scope of the container that takes it
+    module _ (declaration : Node) (t : TakesIn q.chain cs) where
+      abbrev far : BinderRow
+      far = record { flags = union symbol.FunctionScopedVariable.bits (marked_ambient declaration); excluded = symbol.FunctionScopedVariableExcludes.bits; how = hoisted; route = outward_to is_var q.chain }
+
+      way_out : outward_to is_var q.chain ≡ record { passed = passed_before is_var q.chain; target = t.first }
+      way_out = ap (route_from q.chain (passed_before is_var q.chain)) t.is_first
+
+      target_is : (outward_to is_var q.chain).target ≡ t.first
+      target_is = ap (λ (r : Route). r.target) way_out
+
+      passed_as : (z : OpenScope) → Among z (outward_to is_var q.chain).passed → IsPassedAs q z
+      passed_as z a =
+          let i : Among z (passed_before is_var q.chain) = subst (λ (r : Route). Among z r.passed) way_out a in
+          let (c, there, node) = t.passed z i in
+          record { around = passed_in q.chain z i; container = c; among = there; stands = node }
+
+      abbrev pure : Bool
+      pure = is_pure_declarator q.node
+
+      abbrev out : Node → NamedDeclaration
+      out = declared_outward sort.Var s q.node q.path
+
+      abbrev exported : Bool
+      exported = is_exported_under s q.path
+
+      var_home : (id : Node) → IsAtHome (declaration_at q.node far pure id) (out id)
+      var_home id = record {
+        opener = ap (λ (o : OpenScope). o.opener) target_is ∙ t.opener exported;
+        lasting = ap (λ (o : OpenScope). o.body) target_is ∙ t.lasting;
+        in_body = λ i. ap (λ (o : OpenScope). o.in_header) target_is ∙ t.in_body;
+        in_header = λ i. absurd (never (sym i ∙ t.no_header exported));
+        origin = origin_of (out id).container (t.free exported) (k.head.origin (out id).container (t.among exported));
+        unheaded = λ i. absurd (never (sym i));
+        opened = among_opened (openers (steps p)) q.chain (outward_to is_var q.chain).target chain_opened (subst (λ o. Among o q.chain) (sym target_is) t.among_scopes);
+      }
+
+      var_pair : (id : Node) → Among (out id) (named_by_node q.node.kind s q.node q.path) → IsPair (declaration_at q.node far pure id) (out id)
+      var_pair id a = record {
+        told = refl;
+        simple = λ e. record {
+          how = goes_out refl (has mark.Declare declaration, refl) refl q entered a passed_as;
+          flags = variable_are (has mark.Declare declaration);
+          home = var_home id;
+          also = beside (bound_container exported (from_first_taking cs));
+        };
+      }
+
+    variable_pairs : (path : List Node) → q.node.kind ≡ kind.VariableDeclarator → q.path ≡ path → AllPairs (variables_under path q) (variables_named s q.node path)
+    variable_pairs [] j e = tt
+    variable_pairs (declaration ∷ path) j e = subst (λ l. AllPairs (map (declaration_at q.node (variable_row declaration q.chain) (is_pure_declarator q.node)) (bound_names q.node)) (map (cond var (declared_outward sort.Var s q.node l) (declared_here sort.Lexical s q.node l)) (bound_names q.node))) e
+        (map_pairs_among (declaration_at q.node (variable_row declaration q.chain) (is_pure_declarator q.node)) (cond var (declared_outward sort.Var s q.node q.path) (declared_here sort.Lexical s q.node q.path)) (bound_names q.node) (by var refl))
       where
         var : Bool
         var = is_with_text kind.VariableDeclaration (codes "var") declaration
@@ -270,15 +355,24 @@ module _ (p : Tree) where
         let_text : Bool
         let_text = is_with_text kind.VariableDeclaration (codes "let") declaration
 
-        far : BinderRow
-        far = record { flags = union symbol.FunctionScopedVariable.bits (marked_ambient declaration); excluded = symbol.FunctionScopedVariableExcludes.bits; how = hoisted; route = outward_to is_var q.chain }
+        t : TakesIn q.chain cs
+        t = well (subst (λ z. is_statement_kind z ≡ true) (sym j) refl)
+
+        out_there : Node → NamedDeclaration
+        out_there = declared_outward sort.Var s q.node (declaration ∷ path)
+
+        named_so : var ≡ true → (id : Node) → Among id (bound_names q.node) → Among (declared_outward sort.Var s q.node q.path id) (named_by_node q.node.kind s q.node q.path)
+        named_so v id a =
+            subst (λ l. Among (declared_outward sort.Var s q.node l id) (named_by_node q.node.kind s q.node q.path)) (sym e)
+            (subst (Among (out_there id)) (sym (ap (λ z. named_by_node z s q.node q.path) j ∙ ap (variables_named s q.node) e))
+            (subst (λ b. Among (out_there id) (map (cond b out_there (declared_here sort.Lexical s q.node (declaration ∷ path))) (bound_names q.node))) (sym v) (map_among out_there (bound_names q.node) id a)))
 
         near : BinderRow
         near = record { flags = union (lexical_flags declaration) (marked_ambient declaration); excluded = symbol.BlockScopedVariableExcludes.bits; how = plain; route = here q.chain }
 
-        by : (b : Bool) (id : Node) → IsPair (declaration_at q.node (if b then far else near) (is_pure_declarator q.node) id) (cond b (declared_outward sort.Var s q.node q.path) (declared_here sort.Lexical s q.node q.path) id)
-        by true id = unsimple (declaration_at q.node far (is_pure_declarator q.node) id) (declared_outward sort.Var s q.node q.path id) refl refl
-        by false id = sort_here (union (lexical_flags declaration) (marked_ambient declaration)) symbol.BlockScopedVariableExcludes.bits (is_pure_declarator q.node) sort.Lexical (no_namespace (is_unheaded q.node.kind)) (lexical_are let_text (has mark.Declare declaration)) id
+        by : (b : Bool) → var ≡ b → (id : Node) → Among id (bound_names q.node) → IsPair (declaration_at q.node (if b then far declaration t else near) (is_pure_declarator q.node) id) (cond b (declared_outward sort.Var s q.node q.path) (declared_here sort.Lexical s q.node q.path) id)
+        by true v id a = var_pair declaration t id (named_so v id a)
+        by false v id a = sort_here (union (lexical_flags declaration) (marked_ambient declaration)) symbol.BlockScopedVariableExcludes.bits (is_pure_declarator q.node) sort.Lexical (no_namespace (is_unheaded q.node.kind)) (lexical_are let_text (has mark.Declare declaration)) id
 
     parameter_pairs : (path : List Node) → (path ≡ [] → ⊥) → AllPairs (parameters_under path q) (map (named_declaration sort.Parameter (bound_container false cs) []) (bound_names q.node))
     parameter_pairs [] e = absurd (e refl)
@@ -359,7 +453,7 @@ module _ (p : Tree) where
         go false = map_pairs_last (declaration_at q.node (class_row q (own ∷ [])) false) own_name (ids q.node) (λ id. unsimple (declaration_at q.node (class_row q (own ∷ [])) false id) (own_name id) refl refl)
 
     mapped_pairs : q.node.kind ≡ kind.TSMappedType → Paired kind.TSMappedType
-    mapped_pairs e = map_pairs_last w key (names_at role.Key q.node) (λ id. record { told = refl; simple = λ i. record { how = refl; flags = key_are; home = home id; also = nothing_else } })
+    mapped_pairs e = map_pairs_last w key (names_at role.Key q.node) (λ id. record { told = refl; simple = λ i. record { how = stays refl; flags = key_are; home = home id; also = nothing_else } })
       where
         w : Node → Declaration
         w = declaration_at q.node (type_parameter_row (here (own ∷ []))) false
@@ -427,7 +521,7 @@ module _ (p : Tree) where
     not_root j e n h i = n (sym e ∙ h i)
 
     pub pairs_by : (j : AstType) → q.node.kind ≡ j → same_kind j kind.TSIndexSignatureName ≡ false → is_bare_rest q.node q.path ≡ false → (q.path ≡ [] → q.node.kind ≡ kind.Program) → Paired j
-    pairs_by kind.VariableDeclarator e i r u = variable_pairs q.path refl
+    pairs_by kind.VariableDeclarator e i r u = variable_pairs q.path e refl
     pairs_by kind.Function e i r u = function_pairs
     pairs_by kind.Class e i r u = class_pairs
     pairs_by kind.FormalParameter e i r u = parameter_pairs q.path (not_root kind.FormalParameter e (λ z. absurd cc) u)

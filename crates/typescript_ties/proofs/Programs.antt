@@ -445,3 +445,34 @@ index_parameters =
     ∷ [])
     ∷ [])
     ∷ [])
+
+-- `export {}; { { var a; } a; } function f(a: 1) { { var a; } a; }`
+abbrev pub hoisted_names : Tree
+hoisted_names =
+    program goal.Module lang.Ts
+    (node role.Body kind.ExportNamedDeclaration [] []
+    ∷ block role.Body (block role.Body (declared role.Body (codes "var") (binding role.Id (codes "a") ∷ []) ∷ []) ∷ mention (codes "a") ∷ [])
+    ∷ function role.Body (codes "f")
+    (node role.Items kind.FormalParameter []
+    (binding role.Pattern (codes "a")
+    ∷ node role.Annotation kind.TSTypeAnnotation [] (node role.Element kind.TSLiteralType [] (number role.Literal (codes "1") ∷ []) ∷ [])
+    ∷ [])
+    ∷ [])
+    (block role.Body (declared role.Body (codes "var") (binding role.Id (codes "a") ∷ []) ∷ []) ∷ mention (codes "a") ∷ [])
+    ∷ [])
+
+-- `export {}; { { var a; } type a = 1; } let b: a;`
+abbrev pub passed_types : Tree
+passed_types =
+    program goal.Module lang.Ts
+    (node role.Body kind.ExportNamedDeclaration [] []
+    ∷ block role.Body
+    (block role.Body (declared role.Body (codes "var") (binding role.Id (codes "a") ∷ []) ∷ [])
+    ∷ node role.Body kind.TSTypeAliasDeclaration []
+    (binding role.Id (codes "a") ∷ node role.ValueType kind.TSLiteralType [] (number role.Literal (codes "1") ∷ []) ∷ [])
+    ∷ [])
+    ∷ declared role.Body (codes "let")
+    (binding role.Id (codes "b")
+    ∷ node role.Annotation kind.TSTypeAnnotation [] (node role.Element kind.TSTypeReference [] (reference role.Name (codes "a") ∷ []) ∷ [])
+    ∷ [])
+    ∷ [])

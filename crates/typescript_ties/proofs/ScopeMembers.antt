@@ -157,7 +157,7 @@ module _ (p : Tree) (h : first_fault p ≡ None) (common : is_common p ≡ true)
         record {
           named = n;
           both = both;
-          there = in_or_hidden n (simply n both.named both.named_so) (sym both.pair.home.opener ∙ same ∙ opener) both.pair.home.origin (λ i. not_headed s.in_header f.1 (both.pair.home.in_body i) both.pair.flags.no_own);
+          there = in_or_hidden n (simply.each n both.named both.named_so) (sym both.pair.home.opener ∙ same ∙ opener) both.pair.home.origin (λ i. not_headed s.in_header f.1 (both.pair.home.in_body i) both.pair.flags.no_own);
           has = and_from (bytes_eq n.name x) (same_container n.container n.container || list_any (λ d. same_container d n.container) n.also) (elim (name_tells n.name x) [ inl j ↦ j.0 | inr j ↦ absurd (j.1 both.named_so) ]) (ap (λ b. b || list_any (λ d. same_container d n.container) n.also) (container_self n.container));
           number = number;
           name = f.0;
@@ -187,7 +187,7 @@ module _ (p : Tree) (h : first_fault p ≡ None) (common : is_common p ≡ true)
         let same_kinds : n.container.kind ≡ d.kind = container_kind_is n.container.kind d.kind (and_first (same_container_kind n.container.kind d.kind) (same_members n.container d n.container.members d.members) here) in
         let at_node : n.container.node ≡ q.node.node_id = same_node ∙ m.node in
         let number : w.route.target.number ≡ s.number = one_scope p numbered w.route.target s both.opened opened (both.pair.home.opener ∙ at_node ∙ sym opener) in
-        let free : is_apart n.container.kind ≡ false = is_not_apart n (simply n a named) in
+        let free : is_apart n.container.kind ≡ false = is_not_apart n (simply.each n a named) in
         let (y, made) = made_so p h common typed numbered x simply w both.among in
         record {
           made = record { declaration = w; symbol = y };

@@ -10,6 +10,7 @@ use Rattle.semantic_tree.specs.Tree.{Tree, IsNumbered}
 use Rattle.semantic_tree.specs.declared.node.Node.{Node}
 use Rattle.semantic_model.specs.Cursor.{on_entering}
 use Rattle.semantic_model.specs.EachStep.{EachStep}
+use Rattle.semantic_model.specs.Entries.{Among}
 use Rattle.semantic_model.specs.Inside.{is_inside, is_in_header, is_parameter_decorator}
 use Rattle.semantic_model.specs.Place.{Place, OpenScope, innermost, outside}
 use Rattle.semantic_model.specs.ScopeKind.{opened_scope}
@@ -32,6 +33,11 @@ module _ (table : List ℕ) where
   abbrev pub AllOpened : List OpenScope → Type 0
   AllOpened [] = Unit {0}
   AllOpened (s ∷ ss) = IsOpened s × AllOpened ss
+
+  pub among_opened : (chain : List OpenScope) (z : OpenScope) → AllOpened chain → Among z chain → IsOpened z
+  among_opened [] z o a = absurd a
+  among_opened (s ∷ ss) z o (inl e) = subst IsOpened e o.0
+  among_opened (s ∷ ss) z o (inr a) = among_opened ss z o.1 a
 
   abbrev IsOpenedAs : ℕ → Place → OpenScope → Type 0
   IsOpenedAs n p s = slice_get table n ≡ Some s.opener

@@ -1,7 +1,7 @@
 -- What is tried of a name holds of it.
-use Rattle.std.proofs.Common.{◌≡◌, List, [], ◌∷◌, Bool, true, false, ◌&&◌, ◌||◌, not, sym, subst, inl, inr, bytes_eq}
+use Rattle.std.proofs.Common.{◌≡◌, List, [], ◌∷◌, Bool, true, false, ◌&&◌, ◌||◌, not, sym, subst, inl, inr, bytes_eq, ap, ◌==◌, ◌∙◌}
 use Rattle.std.specs.List.{list_all}
-use Rattle.std.proofs.lemmas.Bool.{and_from, not-true}
+use Rattle.std.proofs.lemmas.Bool.{and_from, eq-eqb, not-true}
 use Rattle.semantic_syntax.proofs.Truth.{and_first, and_second}
 use Rattle.semantic_kinds.specs.declared.kind.AstType.TheVariants as kind
 use Rattle.semantic_syntax.specs.Tables.{Name}
@@ -13,9 +13,12 @@ use Rattle.semantic_model.specs.Place.{Place}
 use Rattle.semantic_model.specs.Step.{entering, steps}
 use Rattle.semantic_model.proofs.once.ListedUnder.{name_tells}
 use Rattle.typescript_ties.specs.AskedMeanings.{asked_by_reference}
-use Rattle.typescript_ties.specs.NamedDeclarations.{named_in}
-use Rattle.typescript_ties.specs.SimpleNames.{is_simple, is_way_of, is_past_parameter, IsSimpleName}
-use Rattle.typescript_ties.specs.TriedNames.{asks_its_way, asks_past_none, asks_at, is_simple_name}
+use Rattle.typescript_ties.specs.Containers.{Container, containers}
+use Rattle.typescript_ties.specs.NamedDeclarations.{same_sort, is_sort, named_by_node, named_in}
+use Rattle.typescript_ties.specs.SimpleNames.{is_simple, before_first_taking, VarsKeepClear, is_way_of, is_past_parameter, IsSimpleName}
+use Rattle.typescript_ties.specs.TriedNames.{asks_its_way, asks_past_none, asks_at, declares_var, stands_apart, keeps_clear_at, is_simple_name}
+use Rattle.typescript_ties.specs.declared.declaration_sort.DeclarationSort.TheVariants as sort
+use Rattle.typescript_ties.proofs.AgreedPlaces.{any_there}
 
 never : true ≡ false → ⊥
 never h = absurd cc
@@ -30,19 +33,37 @@ implied true b h e = h
 implied false b h e = absurd (never (sym e))
 
 module _ (p : Tree) (x : Name) (tried : is_simple_name p x ≡ true) where
-  all_simple : list_all (λ z. not (bytes_eq z.name x) || is_simple z) (named_in p) ≡ true
-  all_simple = and_first (list_all (λ z. not (bytes_eq z.name x) || is_simple z) (named_in p)) (list_all (asks_at (named_in p) x) (steps p)) tried
+  abbrev all_declared : Bool
+  all_declared = list_all (λ z. not (bytes_eq z.name x) || is_simple z) (named_in p)
+
+  abbrev all_asked : Bool
+  all_asked = list_all (asks_at (named_in p) x) (steps p)
+
+  abbrev all_clear : Bool
+  all_clear = list_all (keeps_clear_at p.source_type (named_in p) x) (steps p)
+
+  both : (all_declared && all_asked) ≡ true
+  both = and_first (all_declared && all_asked) all_clear tried
 
   -- of a reference what is asked of it
   asked : (q : Place) → Among (entering q) (steps p) → (asks_its_way x q && asks_past_none (named_in p) x q) ≡ true
-  asked q entered = all_among (asks_at (named_in p) x) (steps p) (entering q) (and_second (list_all (λ z. not (bytes_eq z.name x) || is_simple z) (named_in p)) (list_all (asks_at (named_in p) x) (steps p)) tried) entered
+  asked q entered = all_among (asks_at (named_in p) x) (steps p) (entering q) (and_second all_declared all_asked both) entered
 
   named_x : (y : Name) → y ≡ x → bytes_eq y x ≡ true
   named_x y e = elim (name_tells y x) [ inl i ↦ i.0 | inr i ↦ absurd (i.1 e) ]
 
+  keeps_clear : VarsKeepClear p x
+  keeps_clear q entered v n a is_var is_v among is_n c there same =
+      let at : keeps_clear_at p.source_type (named_in p) x (entering q) ≡ true = all_among (keeps_clear_at p.source_type (named_in p) x) (steps p) (entering q) (and_second (all_declared && all_asked) all_clear tried) entered in
+      let passed : List Container = before_first_taking (containers p.source_type q.node q.path) in
+      let declares : declares_var p.source_type x q ≡ true = any_there (λ z. is_sort sort.Var z && bytes_eq z.name x) (named_by_node q.node.kind p.source_type q.node q.path) v a (and_from (is_sort sort.Var v) (bytes_eq v.name x) (ap (λ t. same_sort t sort.Var) is_var) (named_x v.name is_v)) in
+      let each : list_all (λ m. not (bytes_eq m.name x) || stands_apart passed m) (named_in p) ≡ true = implied (declares_var p.source_type x q) (list_all (λ m. not (bytes_eq m.name x) || stands_apart passed m) (named_in p)) at declares in
+      let apart : stands_apart passed n ≡ true = implied (bytes_eq n.name x) (stands_apart passed n) (all_among (λ m. not (bytes_eq m.name x) || stands_apart passed m) (named_in p) n each among) (named_x n.name is_n) in
+      never (sym (all_among (λ d. not (n.container.node == d.node)) passed c apart there) ∙ ap not (eq-eqb n.container.node c.node same))
+
   pub simple_name : IsSimpleName p x
   simple_name = record {
-    simply = λ d a e. implied (bytes_eq d.name x) (is_simple d) (all_among (λ z. not (bytes_eq z.name x) || is_simple z) (named_in p) d all_simple a) (named_x d.name e);
+    simply = record { each = λ d a e. implied (bytes_eq d.name x) (is_simple d) (all_among (λ z. not (bytes_eq z.name x) || is_simple z) (named_in p) d (and_first all_declared all_asked both) a) (named_x d.name e); clear = keeps_clear };
     ways = λ q entered refers is_x. implied (is kind.IdentifierReference q.node && bytes_eq q.node.text x) (is_way_of (asked_by_reference q.path) (way_or_read q.cursor))
         (and_first (asks_its_way x q) (asks_past_none (named_in p) x q) (asked q entered)) (and_from (is kind.IdentifierReference q.node) (bytes_eq q.node.text x) refers (named_x q.node.text is_x));
     parameters = λ q entered refers is_x past. not-true (asked_by_reference q.path).value

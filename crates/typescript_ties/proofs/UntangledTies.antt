@@ -22,9 +22,9 @@ use Rattle.semantic_model.specs.Analysis.{analysis_of, symbol_at}
 use Rattle.semantic_model.specs.Binding.{get}
 use Rattle.semantic_model.specs.Cursor.{way_or_read}
 use Rattle.semantic_model.specs.Entries.{Among, times}
-use Rattle.semantic_model.specs.Event.{events}
+use Rattle.semantic_model.specs.Event.{events, declarations}
 use Rattle.semantic_model.specs.Fits.{StandsUnder}
-use Rattle.semantic_model.specs.Fold.{State, Made, start, flags_of, flags_or_none}
+use Rattle.semantic_model.specs.Fold.{State, Made, start, flags_or_none}
 use Rattle.semantic_model.specs.FreeNames.{free_references}
 use Rattle.semantic_model.specs.Hoist.{run}
 use Rattle.semantic_model.specs.Place.{Place, OpenScope}
@@ -32,6 +32,8 @@ use Rattle.semantic_model.specs.Reference.{reference_at}
 use Rattle.semantic_model.specs.Step.{Step, entering, opening, header_ending, closing, leaving, steps}
 use Rattle.semantic_model.specs.TablesOf.{tables_of, made_of}
 use Rattle.semantic_model.specs.Tie.{seen_as, symbol_by}
+use Rattle.semantic_model.proofs.bindings.NearestVar.{nearest}
+use Rattle.semantic_model.proofs.fold.Orders.{table_of}
 use Rattle.semantic_model.proofs.bindings.Owned.{kept_program}
 use Rattle.semantic_model.proofs.bindings.Owners.{IsSymbolOf}
 use Rattle.semantic_model.proofs.form.Shape.{has_form}
@@ -53,13 +55,14 @@ use Rattle.typescript_ties.specs.ResolvedTies.{is_that_symbol, is_untied, is_tie
 use Rattle.typescript_ties.specs.SeenTogether.{is_in_scope, is_seen_from, bound_together, asked_together}
 use Rattle.typescript_ties.specs.SimpleNames.{is_common, HasOwnMembers, IsSimpleName}
 use Rattle.typescript_ties.proofs.AgreedPlaces.{Agrees, AllHave, IsMissed, Matches, AgreesRound, AgreedStep, looked_up, agreed_places, among_filter, filter_among, any_there}
-use Rattle.typescript_ties.proofs.FitsTogether.{meets_union, meets_mask, AreBoundAs, bound_as_one}
+use Rattle.typescript_ties.proofs.FitsTogether.{meets_union, meets_mask}
 use Rattle.typescript_ties.proofs.HeadPlaces.{round_place}
 use Rattle.typescript_ties.proofs.OwnMembers.{own_members}
-use Rattle.typescript_ties.proofs.PlainFold.{PlainState}
+use Rattle.typescript_ties.proofs.ClearFold.{ClearState}
+use Rattle.typescript_ties.proofs.ClearTies.{clearly_tied}
+use Rattle.typescript_ties.proofs.LikeFlags.{FlagsAlike, SeenAlike}
 use Rattle.typescript_ties.proofs.ReferredNodes.{IsReferred, is_referred}
-use Rattle.typescript_ties.proofs.SimpleDeclarations.{is_plain, one_symbol}
-use Rattle.typescript_ties.proofs.TiedTogether.{in_end, tied_together}
+use Rattle.typescript_ties.proofs.SimpleDeclarations.{is_clear, clear_state}
 use Rattle.typescript_ties.proofs.UndeclaredFree.{each_among}
 
 never : true ≡ false → ⊥
@@ -278,11 +281,11 @@ module _ (p : Tree) (h : first_fault p ≡ None) (common : is_common p ≡ true)
   alone_members : HasOwnMembers p x
   alone_members = own_members p h common typed numbered x name.simply unmerged
 
-  plain : PlainState x (run start (events (steps p)))
-  plain = in_end p h x (is_plain p h common typed numbered x name.simply)
-
   abbrev final : State
   final = run start (events (steps p))
+
+  clear : ClearState (table_of p) (nearest p) (declarations (events (steps p))) x final
+  clear = clear_state p h common typed numbered x name.simply
 
   -- ---- a reference
 
@@ -294,7 +297,7 @@ module _ (p : Tree) (h : first_fault p ≡ None) (common : is_common p ≡ true)
     w = way_or_read q.cursor
 
     tied_is : referred.entry.symbol_id ≡ looked_up p h common typed numbered x no_arguments name.simply alone_members w q.chain
-    tied_is = tied_together p h x (is_plain p h common typed numbered x name.simply) referred.number (reference_at q) referred.entry referred.reference referred.row is_x
+    tied_is = clearly_tied p h x (is_clear p h common typed numbered x name.simply) referred.number (reference_at q) referred.entry referred.reference referred.row is_x
 
     -- it isn't free
     never_free : referred.entry.symbol_id ≡ None → ⊥
@@ -313,24 +316,18 @@ module _ (p : Tree) (h : first_fault p ≡ None) (common : is_common p ≡ true)
       missed_symbol : IsNamed (tables_of p) m.number x
       missed_symbol = subst (λ y. IsNamed (tables_of p) y x) m.is (subst (IsNamed (tables_of p) m.made.symbol) m_named (declarations_have_names p (has_form p h) m.made m.among))
 
+      alike : SeenAlike (seen_as final (get final.bindings m.scope x)) (Some (record { symbol = m.number; flags = m.flags }))
+      alike = subst (SeenAlike (seen_as final (get final.bindings m.scope x))) m.bound (clear.counted m.scope)
+
       bound_there : get final.bindings m.scope x ≡ Some m.number
-      bound_there = by (get final.bindings m.scope x) (plain.counted m.scope ∙ m.bound)
+      bound_there = by (get final.bindings m.scope x) alike
         where
-          by : (o : Option ℕ) → seen_as final o ≡ Some (record { symbol = m.number; flags = m.flags }) → o ≡ Some m.number
-          by None e = absurd cc
-          by (Some y) e = ap Some (ap (λ (s : Seen). s.symbol) (seen_is (record { symbol = y; flags = flags_of final y }) (record { symbol = m.number; flags = m.flags }) e))
+          by : (o : Option ℕ) → SeenAlike (seen_as final o) (Some (record { symbol = m.number; flags = m.flags })) → o ≡ Some m.number
+          by None e = absurd e
+          by (Some y) e = ap Some e.0
 
-      flags_there : flags_of final m.number ≡ m.flags
-      flags_there = by (get final.bindings m.scope x) bound_there (plain.counted m.scope ∙ m.bound)
-        where
-          by : (o : Option ℕ) → o ≡ Some m.number → seen_as final o ≡ Some (record { symbol = m.number; flags = m.flags }) → flags_of final m.number ≡ m.flags
-          by None i e = absurd cc
-          by (Some y) i e =
-              let same : y ≡ m.number = cc in
-              ap (flags_of final) (sym same) ∙ ap (λ (s : Seen). s.flags) (seen_is (record { symbol = y; flags = flags_of final y }) (record { symbol = m.number; flags = m.flags }) e)
-
-      missed_flags : missed_symbol.symbol.flags.bits ≡ m.flags
-      missed_flags = ap flags_or_none (sym missed_symbol.is_there) ∙ flags_there
+      missed_flags : FlagsAlike missed_symbol.symbol.flags.bits m.flags
+      missed_flags = subst (λ f. FlagsAlike f m.flags) (sym (ap flags_or_none (sym missed_symbol.is_there))) (subst (λ o. SeenAlike (seen_as final o) (Some (record { symbol = m.number; flags = m.flags }))) bound_there alike).1
 
       -- the scope of the symbol is the one that binds it
       scope_there : missed_symbol.symbol.scope ≡ m.scope
@@ -343,10 +340,10 @@ module _ (p : Tree) (h : first_fault p ≡ None) (common : is_common p ≡ true)
 
       is_passed : may_be_passed missed_symbol.symbol ≡ true
       is_passed = elim m.passed [
-        | inl (namespace, no_type) ↦ ap (λ b. b || is_inner_alias missed_symbol.symbol) (subst (λ f. ((meets f symbol.ValueModule.bits || meets f symbol.NamespaceModule.bits) && not (meets f symbol.TypeFlag.bits)) ≡ true) (sym missed_flags) (bare m.flags namespace no_type))
+        | inl (namespace, no_type) ↦ ap (λ b. b || is_inner_alias missed_symbol.symbol) (bare missed_symbol.symbol.flags.bits (missed_flags symbol.AsNamespace.bits refl ∙ namespace) (missed_flags symbol.ByType.bits refl ∙ no_type))
         | inr (import, inner) ↦ or_last (is_bare_namespace missed_symbol.symbol) (is_inner_alias missed_symbol.symbol)
             (and_from (meets missed_symbol.symbol.flags.bits symbol.Import.bits || meets missed_symbol.symbol.flags.bits symbol.TypeImport.bits) (not (missed_symbol.symbol.scope == 0))
-            (or_last (meets missed_symbol.symbol.flags.bits symbol.Import.bits) (meets missed_symbol.symbol.flags.bits symbol.TypeImport.bits) (ap (λ f. meets f symbol.TypeImport.bits) missed_flags ∙ import)) (ap (λ c. not (c == 0)) scope_there ∙ ap not inner))
+            (or_last (meets missed_symbol.symbol.flags.bits symbol.Import.bits) (meets missed_symbol.symbol.flags.bits symbol.TypeImport.bits) (missed_flags symbol.TypeImport.bits refl ∙ import)) (ap (λ c. not (c == 0)) scope_there ∙ ap not inner))
       ]
         where
           or_last : (a b : Bool) → b ≡ true → (a || b) ≡ true
@@ -369,28 +366,10 @@ module _ (p : Tree) (h : first_fault p ≡ None) (common : is_common p ≡ true)
 
           -- that scope binds it, too
           bound_own : get final.bindings c x ≡ Some m.number
-          bound_own = by (filter (is_in_scope c x) (made_of p)) refl (get final.bindings c x) (plain.counted c)
-            where
-              all_one : (z : Made) → Among z (filter (is_in_scope c x) (made_of p)) → z.symbol ≡ m.number
-              all_one z b =
-                  let (i, j) = among_filter (is_in_scope c x) (made_of p) z b in
-                  let number : z.declaration.route.target.number ≡ c = elim (eqb_tells z.declaration.route.target.number c) [ inl k ↦ k.1 | inr k ↦ absurd (never (sym (and_first (z.declaration.route.target.number == c) (bytes_eq z.declaration.naming.name x) j) ∙ k.0)) ] in
-                  let z_named : z.declaration.naming.name ≡ x = elim (name_tells z.declaration.naming.name x) [ inl k ↦ k.1 | inr k ↦ absurd (never (sym (and_second (z.declaration.route.target.number == c) (bytes_eq z.declaration.naming.name x) j) ∙ k.0)) ] in
-                  one_symbol p h common typed numbered x name.simply z y i a z_named named number ∙ same
-
-              by : (l : List Made) → filter (is_in_scope c x) (made_of p) ≡ l → (o : Option ℕ) → seen_as final o ≡ bound_by_all (filter (is_in_scope c x) (made_of p)) → o ≡ Some m.number
-              by [] e o i = absurd (subst (Among y) e (filter_among (is_in_scope c x) (made_of p) y a in_own))
-              by (z ∷ zs) e o i =
-                  let all : (v : Made) → Among v (z ∷ zs) → v.symbol ≡ m.number = λ v b. all_one v (subst (Among v) (sym e) b) in
-                  let together : AreBoundAs (z ∷ zs) m.number = bound_as_one z zs m.number all in
-                  of_seen o together.flags (i ∙ ap bound_by_all e ∙ together.bound)
-                where
-                  of_seen : (o : Option ℕ) (f : ℕ) → seen_as final o ≡ Some (record { symbol = m.number; flags = f }) → o ≡ Some m.number
-                  of_seen None f j = absurd cc
-                  of_seen (Some v) f j = ap Some (ap (λ (s : Seen). s.symbol) (seen_is (record { symbol = v; flags = flags_of final v }) (record { symbol = m.number; flags = f }) j))
+          bound_own = clear.same y a named ∙ ap Some same
 
           in_scope : is_in_scope m.scope x y ≡ true
-          in_scope = subst (λ d. is_in_scope d x y ≡ true) (plain.apart c m.scope m.number bound_own bound_there) in_own
+          in_scope = subst (λ d. is_in_scope d x y ≡ true) (clear.apart c m.scope m.number bound_own bound_there) in_own
 
       -- the look-up doesn't find its symbol
       never_that : looked_up p h common typed numbered x no_arguments name.simply alone_members w q.chain ≡ Some m.number → ⊥

@@ -1,5 +1,5 @@
 -- Names of which tables and language are proved to agree, and where.
-use Rattle.std.specs.Prelude.{◌≡◌, ℕ, ◌==◌, List, [], ◌∷◌, Bool, true, false, ◌&&◌, ◌||◌, not, bytes_eq}
+use Rattle.std.specs.Prelude.{◌≡◌, ℕ, ◌==◌, List, [], ◌∷◌, Bool, true, false, ◌&&◌, ◌||◌, not, cond, bytes_eq}
 use Rattle.std.specs.List.{list_any}
 use Rattle.semantic_kinds.specs.Classes.{holds_kind}
 use Rattle.semantic_kinds.specs.Kinds.{same_kind}
@@ -22,7 +22,7 @@ use Rattle.semantic_model.specs.Step.{entering, steps}
 use Rattle.typescript_ties.specs.AskedMeanings.{asked_by_reference}
 use Rattle.typescript_ties.specs.Containers.{Container, is_container, same_container, containers}
 use Rattle.typescript_ties.specs.MeaningSets.{MeaningSet}
-use Rattle.typescript_ties.specs.NamedDeclarations.{NamedDeclaration, is_sort, named_in}
+use Rattle.typescript_ties.specs.NamedDeclarations.{NamedDeclaration, is_sort, takes_vars, named_by_node, named_in}
 use Rattle.typescript_ties.specs.declared.container_kind.ContainerKind.{ContainerKind}
 use Rattle.typescript_ties.specs.declared.container_kind.ContainerKind.TheVariants as container
 use Rattle.typescript_ties.specs.declared.declaration_sort.DeclarationSort.{DeclarationSort}
@@ -40,8 +40,9 @@ is_common_forest k (tree r k2 span text marks below id after) = is_common_child 
 abbrev pub is_common : Tree → Bool
 is_common p = is_common_forest p.root.kind p.root.children
 
--- lexical, a parameter, a type or class, an enum or its member, a namespace, an import, a type parameter, the key of a mapped type, or a function that stays where it stands
+-- by `var`, lexical, a parameter, a type or class, an enum or its member, a namespace, an import, a type parameter, the key of a mapped type, or a function that stays where it stands
 abbrev pub is_simple_sort : DeclarationSort → Bool
+is_simple_sort sort.Var = true
 is_simple_sort sort.Lexical = true
 is_simple_sort sort.Function = true
 is_simple_sort sort.Parameter = true
@@ -76,9 +77,21 @@ stands_with_parameters d = not (is_container container.Parameters d.container) |
 abbrev pub is_simple : NamedDeclaration → Bool
 is_simple d = is_simple_sort d.sort && (not (is_apart d.container.kind) && stands_with_parameters d)
 
--- the name is declared only so
-abbrev pub IsSimplyDeclared : Tree → Name → Type 0
-IsSimplyDeclared p x = (d : NamedDeclaration) → Among d (named_in p) → d.name ≡ x → is_simple d ≡ true
+-- the containers that a variable passes on its way out
+abbrev pub before_first_taking : List Container → List Container
+before_first_taking [] = []
+before_first_taking (c ∷ cs) = cond (takes_vars c) [] (c ∷ before_first_taking cs)
+
+-- no `var` of the name passes a node that has the name, as in `{ let a; { var a } }` and `{ { var a } type a = 1 }`
+abbrev pub VarsKeepClear : Tree → Name → Type 0
+VarsKeepClear p x =
+    (q : Place) → Among (entering q) (steps p) → (v n : NamedDeclaration) → Among v (named_by_node q.node.kind p.source_type q.node q.path) → v.sort ≡ sort.Var → v.name ≡ x → Among n (named_in p) → n.name ≡ x
+    → (c : Container) → Among c (before_first_taking (containers p.source_type q.node q.path)) → n.container.node ≡ c.node → ⊥
+
+-- the name is declared only so, and its variables keep clear
+pub record IsSimplyDeclared (p : Tree) (x : Name) : Type 0 where
+  pub each : (d : NamedDeclaration) → Among d (named_in p) → d.name ≡ x → is_simple d ≡ true
+  pub clear : VarsKeepClear p x
 
 -- where it is a member, no other block shares the members; of a name that is not tangled this follows
 abbrev pub HasOwnMembers : Tree → Name → Type 0
