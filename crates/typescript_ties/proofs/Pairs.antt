@@ -245,6 +245,10 @@ module _ (p : Tree) where
     class_are true = record { value = refl; is_type = refl; namespace = refl; no_own = refl }
     class_are false = record { value = refl; is_type = refl; namespace = refl; no_own = refl }
 
+    class_name_are : (a : Bool) → FlagsAre sort.ClassName (union symbol.Class.bits (ambient_if a))
+    class_name_are true = record { value = refl; is_type = refl; namespace = refl; no_own = refl }
+    class_name_are false = record { value = refl; is_type = refl; namespace = refl; no_own = refl }
+
     alias_are : (a : Bool) → FlagsAre sort.TypeAlias (union symbol.TypeAlias.bits (ambient_if a))
     alias_are true = record { value = refl; is_type = refl; namespace = refl; no_own = refl }
     alias_are false = record { value = refl; is_type = refl; namespace = refl; no_own = refl }
@@ -441,16 +445,27 @@ module _ (p : Tree) where
             let w : Node → Declaration = declaration_at q.node (record { flags = flags_by false; excluded = function_excluded q; how = plain; route = here (own ∷ []) }) pure in
             map_pairs_last w (named_declaration sort.FunctionName (container_of container.OwnName q.node) []) (ids q.node) (λ id. unsimple (w id) (named_declaration sort.FunctionName (container_of container.OwnName q.node) [] id) refl refl)
 
-    class_pairs : Paired kind.Class
-    class_pairs = go (is_statement q.node)
+    class_pairs : q.node.kind ≡ kind.Class → Paired kind.Class
+    class_pairs e = go (is_statement q.node)
       where
         own_name : Node → NamedDeclaration
         own_name = named_declaration sort.ClassName (container_of container.OwnName q.node) []
 
+        own_class : Node → Declaration
+        own_class = declaration_at q.node (class_row q (own ∷ [])) false
+
+        among : Among (container_of container.OwnName q.node) (containers_by q.node.kind s q.node q.path cs q.node)
+        among =
+            subst (λ j. Among (container_of container.OwnName q.node) (containers_by j s q.node q.path cs q.node)) (sym e)
+            (subst (λ b. Among (container_of container.OwnName q.node) (cond b [] (container_of container.TypeParameters q.node ∷ container_of container.OwnName q.node ∷ []))) (sym (ap (λ j. same_kind kind.Decorator j || false) e)) (inr (inl refl)))
+
+        home : (id : Node) → IsAtHome (own_class id) (own_name id)
+        home id = own_home (own_class id) (own_name id) refl refl among (ap opens e) (ap (λ j. same_kind j kind.CatchClause) e) refl (λ i. ap is_function e) refl
+
         go : (b : Bool) → AllPairs (cond b [] (map (declaration_at q.node (class_row q (own ∷ [])) false) (ids q.node)) ++ cond b (map (declaration_at q.node (class_row q q.chain) false) (ids q.node)) [])
             (map (cond b (declared_here sort.Class s q.node q.path) own_name) (ids q.node))
         go true = map_pairs (declaration_at q.node (class_row q q.chain) false) (declared_here sort.Class s q.node q.path) (ids q.node) (λ id. sort_here (union symbol.Class.bits (marked_ambient q.node)) symbol.ClassExcludes.bits false sort.Class (no_namespace (is_unheaded q.node.kind)) (class_are (has mark.Declare q.node)) id)
-        go false = map_pairs_last (declaration_at q.node (class_row q (own ∷ [])) false) own_name (ids q.node) (λ id. unsimple (declaration_at q.node (class_row q (own ∷ [])) false id) (own_name id) refl refl)
+        go false = map_pairs_last (declaration_at q.node (class_row q (own ∷ [])) false) own_name (ids q.node) (λ id. record { told = refl; simple = λ i. record { how = stays refl; flags = class_name_are (has mark.Declare q.node); home = home id; also = nothing_else } })
 
     mapped_pairs : q.node.kind ≡ kind.TSMappedType → Paired kind.TSMappedType
     mapped_pairs e = map_pairs_last w key (names_at role.Key q.node) (λ id. record { told = refl; simple = λ i. record { how = stays refl; flags = key_are; home = home id; also = nothing_else } })
@@ -523,7 +538,7 @@ module _ (p : Tree) where
     pub pairs_by : (j : AstType) → q.node.kind ≡ j → same_kind j kind.TSIndexSignatureName ≡ false → is_bare_rest q.node q.path ≡ false → (q.path ≡ [] → q.node.kind ≡ kind.Program) → Paired j
     pairs_by kind.VariableDeclarator e i r u = variable_pairs q.path e refl
     pairs_by kind.Function e i r u = function_pairs
-    pairs_by kind.Class e i r u = class_pairs
+    pairs_by kind.Class e i r u = class_pairs e
     pairs_by kind.FormalParameter e i r u = parameter_pairs q.path (not_root kind.FormalParameter e (λ z. absurd cc) u)
     pairs_by kind.FormalParameterRest e i r u = parameter_pairs q.path (not_root kind.FormalParameterRest e (λ z. absurd cc) u)
     pairs_by kind.BindingRestElement e i r u = no_rest_pairs (place.parent_holds (is kind.FormalParameters) q.path) _ (rw e at r)

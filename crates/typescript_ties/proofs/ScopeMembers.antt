@@ -194,7 +194,7 @@ module _ (p : Tree) (h : first_fault p ≡ None) (common : is_common p ≡ true)
           among = made;
           both = both;
           seen = by s.in_header refl w number (ap (λ t. t.name) both.told ∙ named)
-              (λ i. into_header w both.pair.home.opener at_node (both.pair.home.in_header (subst (λ z. (same_container_kind z container.TypeParameters || same_container_kind z container.Parameters) ≡ true) (sym same_kinds) (m.header (subst (λ z. is_apart z ≡ false) same_kinds free) (λ f. same_or_true (is_in_header q.node.kind r) (is_of_signature node) (header_is f) (sym header ∙ i)) (header_kinds q.node.kind r (sym header ∙ i))))) (header_kinds q.node.kind r (sym header ∙ i)) d b (subst (λ z. is_apart z ≡ false) same_kinds free)) y;
+              (λ i. into_header w both.pair.home.opener at_node (both.pair.home.in_header (subst (λ z. (same_container_kind z container.TypeParameters || (same_container_kind z container.Parameters || same_container_kind z container.OwnName)) ≡ true) (sym same_kinds) (m.header (subst (λ z. is_apart z ≡ false) same_kinds free) (λ f. same_or_true (is_in_header q.node.kind r) (is_of_signature node) (header_is f) (sym header ∙ i)) (header_kinds q.node.kind r (sym header ∙ i))))) (header_kinds q.node.kind r (sym header ∙ i)) d b (subst (λ z. is_apart z ≡ false) same_kinds free)) y;
         }
       where
         left_or : (u v : Bool) → (u || v) ≡ true → v ≡ false → u ≡ true

@@ -40,13 +40,14 @@ is_common_forest k (tree r k2 span text marks below id after) = is_common_child 
 abbrev pub is_common : Tree → Bool
 is_common p = is_common_forest p.root.kind p.root.children
 
--- by `var`, lexical, a parameter, a type or class, an enum or its member, a namespace, an import, a type parameter, the key of a mapped type, or a function that stays where it stands
+-- by `var`, lexical, a parameter, a type, a class or its own name, an enum or its member, a namespace, an import, a type parameter, the key of a mapped type, or a function that stays where it stands
 abbrev pub is_simple_sort : DeclarationSort → Bool
 is_simple_sort sort.Var = true
 is_simple_sort sort.Lexical = true
 is_simple_sort sort.Function = true
 is_simple_sort sort.Parameter = true
 is_simple_sort sort.Class = true
+is_simple_sort sort.ClassName = true
 is_simple_sort sort.Import = true
 is_simple_sort sort.TypeImport = true
 is_simple_sort sort.TypeAlias = true
@@ -59,14 +60,13 @@ is_simple_sort sort.TypeNamespace = true
 is_simple_sort sort.ValueNamespace = true
 is_simple_sort _ = false
 
--- what has no names but by `infer`, index signatures, catch clauses and the own names of expressions, and what is global beside the file
+-- what has no names but by `infer`, index signatures and catch clauses, and what is global beside the file
 abbrev pub is_apart : ContainerKind → Bool
 is_apart container.Globals = true
 is_apart container.Inferred = true
 is_apart container.Condition = true
 is_apart container.Infer = true
 is_apart container.IndexSignature = true
-is_apart container.OwnName = true
 is_apart container.CatchClause = true
 is_apart _ = false
 
