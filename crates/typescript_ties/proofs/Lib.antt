@@ -6,6 +6,7 @@ pub mod UndeclaredFree
 pub mod OtherNames
 pub mod PlainFold
 pub mod LikeFlags
+pub mod MadeOnce
 pub mod ClearFold
 pub mod ClearTies
 pub mod TiedTogether

@@ -256,13 +256,13 @@ module _ (p : Tree) (h : first_fault p ≡ None) (common : is_common p ≡ true)
   way_clear d n b e (goes_out how variable is_var q entered at each) = inr (how, (variable, λ o a f. apart n b.named b.named_so is_var q entered at d.route.passed each o a (f ∙ e)))
 
   pub is_clear : AllClear all x
-  is_clear d a e = let (n, b) = of_tables d a e in record { lasting = b.pair.home.lasting; no_own = b.pair.flags.no_own; way = way_clear d n b e b.pair.how }
+  is_clear d a e = let (n, b) = of_tables d a e in record { lasting = b.pair.home.lasting; alone = λ i. absurd (never (sym i ∙ b.pair.flags.no_own)); way = way_clear d n b e b.pair.how }
 
   abbrev final : State
   final = run start (events (steps p))
 
   pub clear_state : ClearState (table_of p) (nearest p) all x final
-  clear_state = clear_at_last p h x is_clear
+  clear_state = clear_at_last p h numbered x is_clear
 
   -- those in one scope have one symbol
   pub one_symbol : (m n : Made) → Among m (made_of p) → Among n (made_of p) → m.declaration.naming.name ≡ x → n.declaration.naming.name ≡ x → m.declaration.route.target.number ≡ n.declaration.route.target.number → m.symbol ≡ n.symbol

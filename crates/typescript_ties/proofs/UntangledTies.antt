@@ -297,7 +297,7 @@ module _ (p : Tree) (h : first_fault p ≡ None) (common : is_common p ≡ true)
     w = way_or_read q.cursor
 
     tied_is : referred.entry.symbol_id ≡ looked_up p h common typed numbered x no_arguments name.simply alone_members w q.chain
-    tied_is = clearly_tied p h x (is_clear p h common typed numbered x name.simply) referred.number (reference_at q) referred.entry referred.reference referred.row is_x
+    tied_is = clearly_tied p h numbered x (is_clear p h common typed numbered x name.simply) referred.number (reference_at q) referred.entry referred.reference referred.row is_x
 
     -- it isn't free
     never_free : referred.entry.symbol_id ≡ None → ⊥
