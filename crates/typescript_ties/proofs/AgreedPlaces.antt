@@ -399,7 +399,11 @@ module _ (p : Tree) (h : first_fault p ≡ None) (common : is_common p ≡ true)
             let before : is_before_body s.number x m ≡ true = sym (ap (λ t. cond t (is_before_body s.number x m) (is_in_scope s.number x m)) i) ∙ (among_filter (is_seen_from s x) (made_of p) m a).1 in
             let headed : (m.declaration.route.target.in_header || is_own_name m.declaration) ≡ true = and_second (m.declaration.route.target.number == s.number) (m.declaration.route.target.in_header || is_own_name m.declaration) (and_first (stands_before_body s.number m.declaration) (bytes_eq m.declaration.naming.name x) before) in
             let unheaded : m.declaration.route.target.in_header ≡ false = b.both.pair.home.unheaded (sym b.both.pair.flags.namespace ∙ g) in
-            absurd (never (sym headed ∙ (λ t. unheaded t || b.both.pair.flags.no_own t))))
+            let no_own : is_own_name m.declaration ≡ false = elim b.both.pair.own [
+              | inl z ↦ z
+              | inr (is_name, at) ↦ absurd (never (sym g ∙ b.both.pair.flags.namespace ∙ ap (λ z. (sort_meanings z).namespace) is_name))
+            ] in
+            absurd (never (sym headed ∙ (λ t. unheaded t || no_own t))))
       ]
 
       -- past the root's scope nothing is found

@@ -29,6 +29,7 @@ use Rattle.semantic_model.proofs.form.Shape.{has_form}
 use Rattle.semantic_model.proofs.lists.Members.{among_left, among_right, among_last, among_cases}
 use Rattle.program_laws.proofs.DeclaredNodes.{among_flat}
 use Rattle.semantic_model.specs.TablesOf.{made_of}
+use Rattle.binding_laws.specs.SeenDeclarations.{is_own_name}
 use Rattle.typescript_ties.specs.DeclaredNames.{told_to_tables, told_by_language}
 use Rattle.typescript_ties.specs.NamedDeclarations.{NamedDeclaration, named_by_node, named_at, named_in}
 use Rattle.typescript_ties.specs.SimpleNames.{is_common, is_simple_sort, is_simple, IsSimplyDeclared}
@@ -255,8 +256,17 @@ module _ (p : Tree) (h : first_fault p ≡ None) (common : is_common p ≡ true)
   way_clear d n b e (stays how) = inl how
   way_clear d n b e (goes_out how variable is_var q entered at each) = inr (how, (variable, λ o a f. apart n b.named b.named_so is_var q entered at d.route.passed each o a (f ∙ e)))
 
+  -- where it is a function's own, the scope has nothing else
+  own_alone : (d : Declaration) (n : NamedDeclaration) → IsBoth d n → d.naming.name ≡ x → is_own_name d ≡ true → (o : Declaration) → Among o all → o.naming.name ≡ d.naming.name → o.route.target.number ≡ d.route.target.number → o.naming.identifier ≡ d.naming.identifier
+  own_alone d n b e i o a f number = elim b.pair.own [
+    | inl j ↦ absurd (never (sym i ∙ j))
+    | inr (is_name, at) ↦ (let (m, c) = of_tables o a (f ∙ e) in
+        let opener : o.route.target.opener ≡ d.route.target.opener = one_opener o.route.target.opener d.route.target.opener (sym c.opened ∙ ap (slice_get (openers (steps p))) number ∙ b.opened) in
+        ap (λ t. t.identifier) c.told ∙ simply.own n m b.named c.named b.named_so c.named_so is_name (sym c.pair.home.opener ∙ opener ∙ b.pair.home.opener) ∙ sym (ap (λ t. t.identifier) b.told))
+  ]
+
   pub is_clear : AllClear all x
-  is_clear d a e = let (n, b) = of_tables d a e in record { lasting = b.pair.home.lasting; alone = λ i. absurd (never (sym i ∙ b.pair.flags.no_own)); way = way_clear d n b e b.pair.how }
+  is_clear d a e = let (n, b) = of_tables d a e in record { lasting = b.pair.home.lasting; alone = own_alone d n b e; way = way_clear d n b e b.pair.how }
 
   abbrev final : State
   final = run start (events (steps p))
