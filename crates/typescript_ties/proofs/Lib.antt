@@ -14,6 +14,8 @@ pub mod Heads
 pub mod EnteredOnce
 pub mod ScopeOpeners
 pub mod ChildChains
+pub mod ParameterLists
+pub mod OutsidePlaces
 pub mod HeadPlaces
 pub mod VarPlaces
 pub mod VarRoutes
