@@ -1,7 +1,9 @@
 -- Place by place, what the scopes answer is what the name means in the containers.
 use Rattle.std.proofs.Common.{◌≡◌, ℕ, ◌==◌, List, [], ◌∷◌, ◌++◌, Option, Some, None, Bool, true, false, ◌&&◌, ◌||◌, cond, refl, sym, ap, subst, ◌∙◌, inl, inr, ◌⊎◌, bytes_eq, codes, map, filter}
 use Rattle.std.specs.List.{list_any}
+use Rattle.std.specs.Prelude.{slice_get}
 use Rattle.std.proofs.lemmas.Bool.{cases_Bool, and_from, eq-eqb}
+use Rattle.std.proofs.lemmas.Bool.Decides.{eqb_tells}
 use Rattle.semantic_syntax.proofs.Truth.{and_first, and_second}
 use Rattle.semantic_kinds.specs.declared.kind.AstType.TheVariants as kind
 use Rattle.semantic_kinds.specs.declared.role.Role.{Role}
@@ -31,30 +33,30 @@ use Rattle.semantic_model.proofs.once.ListedUnder.{name_tells}
 use Rattle.semantic_model.proofs.steps.EachStep.{EachOfTurn, each_left, each_of_node, each_of_turn, turn_of_each}
 use Rattle.semantic_model.proofs.steps.Turn.{Turn, turn_at}
 use Rattle.semantic_model.proofs.steps.TurnCases.{opening_case, ending_case, last_case}
+use Rattle.walk_model.proofs.once.NodeIds.{root_numbered}
 use Rattle.walk_model.proofs.places.Shapes.{holds_below}
 use Rattle.semantic_model.specs.TablesOf.{made_of}
-use Rattle.binding_laws.specs.SeenDeclarations.{bound_by_all}
+use Rattle.binding_laws.specs.SeenDeclarations.{is_own_name, stands_before_body, is_before_body, bound_by_all}
 use Rattle.binding_laws.proofs.SymbolsAtNodes.{symbols_are_at_nodes}
-use Rattle.typescript_ties.specs.Containers.{Container, same_container_kind, same_members, same_container, is_container, no_container, outside_function, containers_by}
+use Rattle.typescript_ties.specs.Containers.{Container, same_container_kind, same_members, same_container, no_container, outside_function, containers_by}
 use Rattle.typescript_ties.specs.MeaningSets.{MeaningSet, shares_meaning, sort_meanings}
 use Rattle.typescript_ties.specs.NamedDeclarations.{NamedDeclaration, same_sort, is_sort, named_in}
 use Rattle.typescript_ties.specs.Resolved.{Resolved, nowhere, declared_in, has_declared, declarations_in, has_meaning, resolve}
 use Rattle.typescript_ties.specs.SeenTogether.{is_in_scope, is_seen_from, bound_together, asked_together}
-use Rattle.typescript_ties.specs.SimpleNames.{is_common, is_apart, is_simple, IsSimplyDeclared, HasOwnMembers, StandsWithTypes, is_way_of, is_parameter_named, is_past_parameter}
-use Rattle.typescript_ties.specs.declared.container_kind.ContainerKind.TheVariants as container
+use Rattle.typescript_ties.specs.SimpleNames.{is_common, is_apart, IsSimplyDeclared, HasOwnMembers, is_way_of, is_parameter_named, is_past_parameter}
 use Rattle.typescript_ties.specs.declared.declaration_sort.DeclarationSort.TheVariants as sort
 use Rattle.typescript_ties.proofs.ChildChains.{ChainOf, outer_chain, inner_chain, OwnOf, own_of}
 use Rattle.typescript_ties.proofs.ChildPlaces.{tells_inside, told_by_kind, tree_tells, tells_header, tree_headed}
+use Rattle.typescript_ties.proofs.EnteredOnce.{entered_once}
 use Rattle.typescript_ties.proofs.FitsTogether.{any_meets, AreBoundAs, bound_as_one, is_asked, WayAsks, way_asks}
-use Rattle.typescript_ties.proofs.Heads.{is_of_header}
 use Rattle.typescript_ties.proofs.HeadPlaces.{IsCommonPlace, CommonStep, common_places, round_place}
 use Rattle.typescript_ties.proofs.OutsideGroups.{IsAside, aside_of}
 use Rattle.typescript_ties.proofs.Pairs.{container_kind_is}
-use Rattle.typescript_ties.proofs.ScopeMembers.{IsHidden, SeenAs, seen_as, in_header_only, SeenToo, seen_too}
-use Rattle.typescript_ties.proofs.ScopeOpeners.{openers, IsOpened, AllOpened, IsPlaceOpened, places_opened}
+use Rattle.typescript_ties.proofs.ScopeMembers.{IsHidden, SeenAs, seen_as, SeenToo, seen_too}
+use Rattle.typescript_ties.proofs.ScopeOpeners.{openers, IsOpened, AllOpened, IsPlaceOpened, places_opened, root_opener}
 use Rattle.typescript_ties.proofs.OutsidePlaces.{decorated, plain_round, plain_chain, decorator_has, child_out}
 use Rattle.typescript_ties.proofs.ParameterLists.{is_list_kind, tells_parameters, tree_parameters}
-use Rattle.typescript_ties.proofs.SimpleOnes.{is_not_apart, is_parameter}
+use Rattle.typescript_ties.proofs.SimpleOnes.{is_not_apart}
 use Rattle.typescript_ties.proofs.SimpleDeclarations.{IsBoth, of_language, made_so, one_symbol}
 use Rattle.typescript_ties.proofs.UndeclaredFree.{OfEntered, IsEnteredIn, all_entered}
 
@@ -138,7 +140,7 @@ module _ (x : Name) (w : ℕ) (no_arguments : bytes_eq x (codes "arguments") ≡
 -- ---- places
 
 module _ (p : Tree) (h : first_fault p ≡ None) (common : is_common p ≡ true) (typed : is_typescript p.source_type ≡ true) (numbered : IsNumbered p.root) (x : Name) (no_arguments : bytes_eq x (codes "arguments") ≡ false)
-    (simply : IsSimplyDeclared p x) (alone : HasOwnMembers p x) (types : StandsWithTypes p x) where
+    (simply : IsSimplyDeclared p x) (alone : HasOwnMembers p x) where
   abbrev ns : List NamedDeclaration
   ns = named_in p
 
@@ -154,7 +156,7 @@ module _ (p : Tree) (h : first_fault p ≡ None) (common : is_common p ≡ true)
   Agrees o nowhere = o ≡ None
   Agrees o (declared_in c ids) = (y : ℕ) × (o ≡ Some y) × AllHave ids y
 
-  -- a scope binds the name to a namespace that is no type, which the look-up passes
+  -- a scope binds the name to a namespace that is no type, or further in to an import of types, and the look-up passes it
   pub record IsMissed (w : ℕ) : Type 0 where
     pub scope : ℕ
     pub number : ℕ
@@ -165,8 +167,7 @@ module _ (p : Tree) (h : first_fault p ≡ None) (common : is_common p ≡ true)
     pub is : made.symbol ≡ number
     pub bound : bound_by_all (filter (is_in_scope scope x) (made_of p)) ≡ Some (record { symbol = number; flags = flags })
     pub any : (m : ℕ) → meets flags m ≡ any_meets m (filter (is_in_scope scope x) (made_of p))
-    pub namespace : meets flags symbol.AsNamespace.bits ≡ true
-    pub no_type : meets flags symbol.ByType.bits ≡ false
+    pub passed : ((meets flags symbol.AsNamespace.bits ≡ true) × (meets flags symbol.ByType.bits ≡ false)) ⊎ ((meets flags symbol.TypeImport.bits ≡ true) × ((scope == 0) ≡ false))
     pub unusable : is_usable w flags ≡ false
 
   -- the name is declared, and the look-up finds nothing
@@ -332,15 +333,8 @@ module _ (p : Tree) (h : first_fault p ≡ None) (common : is_common p ≡ true)
       bound_is : bound_together p x s ≡ Some (record { symbol = first.symbol; flags = F })
       bound_is = ap bound_by_all is_seen ∙ together.bound
 
-      same_any : (ms : List Made) → ((m : Made) → Among m ms → meets m.declaration.naming.flags symbol.ByValueAsType.bits ≡ meets m.declaration.naming.flags symbol.ByValue.bits) → any_meets symbol.ByValueAsType.bits ms ≡ any_meets symbol.ByValue.bits ms
-      same_any [] f = refl
-      same_any (m ∷ ms) f = λ i. f m (inl refl) i || same_any ms (λ z a. f z (inr a)) i
-
-      same_value : meets F symbol.ByValueAsType.bits ≡ meets F symbol.ByValue.bits
-      same_value = any_is symbol.ByValueAsType.bits ∙ same_any seen (λ m a. (let b : Seen' m = of_seen m a in b.both.pair.flags.as_type ∙ sym b.both.pair.flags.value)) ∙ sym (any_is symbol.ByValue.bits)
-
       asks : WayAsks asked w F
-      asks = way_asks w F same_value asked is_way
+      asks = way_asks w F asked is_way
 
       -- what one of them is, they are together
       flag_of : (v : Bool) (mask : ℕ) (m : Made) → Among m seen → (v && meets m.declaration.naming.flags mask) ≡ true → (v && meets F mask) ≡ true
@@ -363,9 +357,9 @@ module _ (p : Tree) (h : first_fault p ≡ None) (common : is_common p ≡ true)
 
       asked_up : (m : Made) → Among m seen → is_asked asked m.declaration.naming.flags ≡ true → is_asked asked F ≡ true
       asked_up m a e =
-          or_by (asked.value && meets m.declaration.naming.flags symbol.ByValue.bits) (asked.is_type && meets m.declaration.naming.flags symbol.ByType.bits) (asked.namespace && meets m.declaration.naming.flags symbol.AsNamespace.bits)
-          (asked.value && meets F symbol.ByValue.bits) (asked.is_type && meets F symbol.ByType.bits) (asked.namespace && meets F symbol.AsNamespace.bits)
-          (flag_of asked.value symbol.ByValue.bits m a) (flag_of asked.is_type symbol.ByType.bits m a) (flag_of asked.namespace symbol.AsNamespace.bits m a) e
+          or_by (asked.value && meets m.declaration.naming.flags symbol.ByValueAsType.bits) (asked.is_type && meets m.declaration.naming.flags symbol.ByType.bits) (asked.namespace && meets m.declaration.naming.flags symbol.AsNamespace.bits)
+          (asked.value && meets F symbol.ByValueAsType.bits) (asked.is_type && meets F symbol.ByType.bits) (asked.namespace && meets F symbol.AsNamespace.bits)
+          (flag_of asked.value symbol.ByValueAsType.bits m a) (flag_of asked.is_type symbol.ByType.bits m a) (flag_of asked.namespace symbol.AsNamespace.bits m a) e
 
       -- and what they are together, one of them is
       from_flag : (v : Bool) (mask : ℕ) → (v && meets F mask) ≡ true → (m : Made) × Among m seen × ((v && meets m.declaration.naming.flags mask) ≡ true)
@@ -374,7 +368,7 @@ module _ (p : Tree) (h : first_fault p ≡ None) (common : is_common p ≡ true)
           (m, a, and_from v (meets m.declaration.naming.flags mask) (and_first v (meets F mask) e) i)
 
       asked_down : is_asked asked F ≡ true → (m : Made) × Among m seen × (is_asked asked m.declaration.naming.flags ≡ true)
-      asked_down e = by (asked.value && meets F symbol.ByValue.bits) (asked.is_type && meets F symbol.ByType.bits) (asked.namespace && meets F symbol.AsNamespace.bits) refl refl refl e
+      asked_down e = by (asked.value && meets F symbol.ByValueAsType.bits) (asked.is_type && meets F symbol.ByType.bits) (asked.namespace && meets F symbol.AsNamespace.bits) refl refl refl e
         where
           one : (u v : Bool) → u ≡ true → (u || v) ≡ true
           one true v i = refl
@@ -391,10 +385,10 @@ module _ (p : Tree) (h : first_fault p ≡ None) (common : is_common p ≡ true)
           three false false true i = refl
           three false false false i = absurd (never (sym i))
 
-          by : (a b c : Bool) → (asked.value && meets F symbol.ByValue.bits) ≡ a → (asked.is_type && meets F symbol.ByType.bits) ≡ b → (asked.namespace && meets F symbol.AsNamespace.bits) ≡ c → (a || (b || c)) ≡ true → (m : Made) × Among m seen × (is_asked asked m.declaration.naming.flags ≡ true)
-          by true b c i j l e = let (m, a, g) = from_flag asked.value symbol.ByValue.bits i in (m, a, one (asked.value && meets m.declaration.naming.flags symbol.ByValue.bits) ((asked.is_type && meets m.declaration.naming.flags symbol.ByType.bits) || (asked.namespace && meets m.declaration.naming.flags symbol.AsNamespace.bits)) g)
-          by false true c i j l e = let (m, a, g) = from_flag asked.is_type symbol.ByType.bits j in (m, a, two (asked.value && meets m.declaration.naming.flags symbol.ByValue.bits) (asked.is_type && meets m.declaration.naming.flags symbol.ByType.bits) (asked.namespace && meets m.declaration.naming.flags symbol.AsNamespace.bits) g)
-          by false false true i j l e = let (m, a, g) = from_flag asked.namespace symbol.AsNamespace.bits l in (m, a, three (asked.value && meets m.declaration.naming.flags symbol.ByValue.bits) (asked.is_type && meets m.declaration.naming.flags symbol.ByType.bits) (asked.namespace && meets m.declaration.naming.flags symbol.AsNamespace.bits) g)
+          by : (a b c : Bool) → (asked.value && meets F symbol.ByValueAsType.bits) ≡ a → (asked.is_type && meets F symbol.ByType.bits) ≡ b → (asked.namespace && meets F symbol.AsNamespace.bits) ≡ c → (a || (b || c)) ≡ true → (m : Made) × Among m seen × (is_asked asked m.declaration.naming.flags ≡ true)
+          by true b c i j l e = let (m, a, g) = from_flag asked.value symbol.ByValueAsType.bits i in (m, a, one (asked.value && meets m.declaration.naming.flags symbol.ByValueAsType.bits) ((asked.is_type && meets m.declaration.naming.flags symbol.ByType.bits) || (asked.namespace && meets m.declaration.naming.flags symbol.AsNamespace.bits)) g)
+          by false true c i j l e = let (m, a, g) = from_flag asked.is_type symbol.ByType.bits j in (m, a, two (asked.value && meets m.declaration.naming.flags symbol.ByValueAsType.bits) (asked.is_type && meets m.declaration.naming.flags symbol.ByType.bits) (asked.namespace && meets m.declaration.naming.flags symbol.AsNamespace.bits) g)
+          by false false true i j l e = let (m, a, g) = from_flag asked.namespace symbol.AsNamespace.bits l in (m, a, three (asked.value && meets m.declaration.naming.flags symbol.ByValueAsType.bits) (asked.is_type && meets m.declaration.naming.flags symbol.ByType.bits) (asked.namespace && meets m.declaration.naming.flags symbol.AsNamespace.bits) g)
           by false false false i j l e = absurd (never (sym e))
 
       -- the identifiers of the container have the symbol
@@ -407,36 +401,38 @@ module _ (p : Tree) (h : first_fault p ≡ None) (common : is_common p ≡ true)
             all_have d b l (λ z a. f z (inr a)),
           )
 
-      -- in a header they are type parameters, and no namespaces
+      -- in a header stands no namespace
       no_header : meets F symbol.AsNamespace.bits ≡ true → s.in_header ≡ false
       no_header e = elim (cases_Bool s.in_header) [
         | inr i ↦ i
         | inl i ↦ (let (m, a, g) = any_among (λ y. meets y.declaration.naming.flags symbol.AsNamespace.bits) seen (sym (any_is symbol.AsNamespace.bits) ∙ e) in
             let b : Seen' m = of_seen m a in
-            absurd (never (sym g ∙ b.both.pair.flags.namespace ∙ in_header_none i b)))
+            let before : is_before_body s.number x m ≡ true = sym (ap (λ t. cond t (is_before_body s.number x m) (is_in_scope s.number x m)) i) ∙ (among_filter (is_seen_from s x) (made_of p) m a).1 in
+            let headed : (m.declaration.route.target.in_header || is_own_name m.declaration) ≡ true = and_second (m.declaration.route.target.number == s.number) (m.declaration.route.target.in_header || is_own_name m.declaration) (and_first (stands_before_body s.number m.declaration) (bytes_eq m.declaration.naming.name x) before) in
+            let unheaded : m.declaration.route.target.in_header ≡ false = b.both.pair.home.unheaded (sym b.both.pair.flags.namespace ∙ g) in
+            absurd (never (sym headed ∙ (λ t. unheaded t || b.both.pair.flags.no_own t))))
       ]
+
+      -- past the root's scope nothing is found
+      at_top : s.number ≡ 0 → q.chain ≡ []
+      at_top e =
+          let id : s.opener ≡ 0 = some_is s.opener 0 (sym opened ∙ ap (slice_get (openers (steps p))) e ∙ root_opener p (has_form p h).root numbered) in
+          ap (λ (z : Place). z.chain) (entered_once p numbered q (root_place p) entered (inl refl) (sym opener ∙ id ∙ sym (root_numbered p numbered).0))
         where
-          or_cases : (u v : Bool) → (u || v) ≡ true → (u ≡ true) ⊎ (v ≡ true)
-          or_cases true v e = inl refl
-          or_cases false v e = inr e
+          some_is : (m n : ℕ) → Some m ≡ Some n → m ≡ n
+          some_is m n i = cc
 
-          in_header_none : s.in_header ≡ true → {m : Made} → (b : Seen' m) → (sort_meanings b.named.sort).namespace ≡ false
-          in_header_none i b = elim b.there [
-            | inr z ↦ ap (λ z. (sort_meanings z).namespace) z.parameter
-            | inl z ↦ (let is_so : is_simple b.named ≡ true = simply.each b.named b.both.named b.both.named_so in
-                let one : is_of_header b.named.container ≡ true = in_header_only p h common typed numbered x simply alone q entered k r node text tells headed inside s opener header opened c c_entered c_round i b.named.container z (is_not_apart b.named is_so) in
-                elim (or_cases (is_container container.TypeParameters b.named.container) (is_container container.Parameters b.named.container) one) [
-                  | inl t ↦ ap (λ z. (sort_meanings z).namespace) (types b.named b.both.named b.both.named_so t)
-                  | inr t ↦ ap (λ z. (sort_meanings z).namespace) (is_parameter b.named is_so t)
-                ])
-          ]
+      abbrev passed : Option ℕ
+      passed = symbol_by (lookup x w (record { scope = s.number; flags = s.flags; bound = Some (record { symbol = first.symbol; flags = F }) } ∷ map (asked_together p x) q.chain))
 
-      missed : is_asked asked F ≡ true → is_usable w F ≡ false → IsMissed w
+      missed : is_asked asked F ≡ true → is_usable w F ≡ false → IsMissed w ⊎ IsFreeThough passed
       missed e f =
-          let (namespace, no_type) = asks.missed e f in
+          let (namespace, sort) = asks.missed e f in
           let plain : s.in_header ≡ false = no_header namespace in
           let in_scope : seen ≡ filter (is_in_scope s.number x) (made_of p) = rw plain refl in
           let a : Among first seen = subst (Among first) (sym is_seen) (inl refl) in
+          let b : Seen' first = of_seen first a in
+          let missed_so : ((meets F symbol.AsNamespace.bits ≡ true) × (meets F symbol.ByType.bits ≡ false)) ⊎ ((meets F symbol.TypeImport.bits ≡ true) × ((s.number == 0) ≡ false)) → IsMissed w = λ o.
           record {
             scope = s.number;
             number = first.symbol;
@@ -447,10 +443,21 @@ module _ (p : Tree) (h : first_fault p ≡ None) (common : is_common p ≡ true)
             is = refl;
             bound = ap bound_by_all (sym in_scope) ∙ bound_is;
             any = λ m. any_is m ∙ ap (any_meets m) in_scope;
-            namespace = namespace;
-            no_type = no_type;
+            passed = o;
             unusable = f;
-          }
+          } in
+          elim sort [
+            | inl no_type ↦ inl (missed_so (inl (namespace, no_type)))
+            | inr import ↦ elim (eqb_tells s.number 0) [
+              | inr i ↦ inl (missed_so (inr (import, i.0)))
+              | inl i ↦ inr (record {
+                free = next_if_unusable x w no_arguments s.number s.flags first.symbol F (map (asked_together p x) q.chain) f ∙ ap (looked_up w) (at_top i.1);
+                made = first;
+                among = (among_filter (is_seen_from s x) (made_of p) first a).0;
+                named = b.name;
+              })
+            ]
+          ]
 
       when_some : Goal (Some (record { symbol = first.symbol; flags = F }))
       when_some = elim (in_group ns asked x group outer) [
@@ -461,7 +468,7 @@ module _ (p : Tree) (h : first_fault p ≡ None) (common : is_common p ≡ true)
             elim (cases_Bool (is_usable w F)) [
               | inl u ↦ inl (subst (Agrees (symbol_by (lookup x w (record { scope = s.number; flags = s.flags; bound = Some (record { symbol = first.symbol; flags = F }) } ∷ map (asked_together p x) q.chain)))) (sym j)
                   (first.symbol, found_if_usable x w no_arguments s.number s.flags first.symbol F (map (asked_together p x) q.chain) u, all_have d a (declarations_in ns d x) (λ z e. e)))
-              | inr u ↦ inr (inl (missed is_so u))
+              | inr u ↦ inr (missed is_so u)
             ])
         | inl f ↦ elim (cases_Bool (is_usable w F)) [
           | inl u ↦ (let (m, a, g) = asked_down (asks.found u) in

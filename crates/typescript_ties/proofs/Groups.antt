@@ -141,8 +141,14 @@ module _ (s : SourceType) (x ch node : Node) (path : List Node) (outer : List Co
         header = λ a i o. refl;
       }
 
+      own_among : (t u : Bool) → Among (container_of container.OwnName x) (cond t [] (container_of container.Body x ∷ []) ++ (cond u [] (container_of container.Parameters x ∷ []) ++ container_of container.TypeParameters x ∷ []) ++ container_of container.OwnName x ∷ [])
+      own_among true true = inr (inl refl)
+      own_among true false = inr (inr (inl refl))
+      own_among false true = inr (inr (inl refl))
+      own_among false false = inr (inr (inr (inl refl)))
+
       own : Member k (container_of container.OwnName x)
-      own = apart_member k (container_of container.OwnName x) refl refl refl refl
+      own = record { node = refl; body = λ i. f; no_global = refl; again = λ a i j. here (container_of container.OwnName x) (own_among (is_of_signature node) (is kind.TSTypeParameterDeclaration node)); header = λ a i o. refl }
 
       by : (t u : Bool) → is_of_signature ch ≡ t → Among c0 (cond t [] (container_of container.Body x ∷ []) ++ (cond u [] (container_of container.Parameters x ∷ []) ++ container_of container.TypeParameters x ∷ []) ++ container_of container.OwnName x ∷ []) → Member k c0
       by true true e b = two k (container_of container.TypeParameters x) (container_of container.OwnName x) c0 b types own
@@ -177,9 +183,11 @@ module _ (s : SourceType) (x ch node : Node) (path : List Node) (outer : List Co
   member_of kind.TSIndexSignature c0 w i t a = one kind.TSIndexSignature (container_of container.IndexSignature x) c0 a (apart_member kind.TSIndexSignature (container_of container.IndexSignature x) refl refl refl refl)
   member_of kind.Class c0 w i t a =
       two kind.Class (container_of container.TypeParameters x) (container_of container.OwnName x) c0 (among_unless (is_one_of_kind kind.Decorator ch) (container_of container.TypeParameters x ∷ container_of container.OwnName x ∷ []) c0 a)
-      (plain_member kind.Class (container_of container.TypeParameters x) refl refl refl refl refl (λ e. let_out (is_one_of_kind kind.Decorator node) (container_of container.TypeParameters x) (container_of container.TypeParameters x ∷ container_of container.OwnName x ∷ [])
-      (not-true (is_one_of_kind kind.Decorator node) (inside_is (is_inside kind.Class r) false (is_one_of_kind kind.Decorator node) (t refl) i)) (inl refl)))
-      (apart_member kind.Class (container_of container.OwnName x) refl refl refl refl)
+      (plain_member kind.Class (container_of container.TypeParameters x) refl refl refl refl refl (λ e. in_class (container_of container.TypeParameters x) (inl refl)))
+      (plain_member kind.Class (container_of container.OwnName x) refl refl refl refl refl (λ e. in_class (container_of container.OwnName x) (inr (inl refl))))
+    where
+      in_class : (c : Container) → Among c (container_of container.TypeParameters x ∷ container_of container.OwnName x ∷ []) → Among c (cond (is_one_of_kind kind.Decorator node) [] (container_of container.TypeParameters x ∷ container_of container.OwnName x ∷ []))
+      in_class c b = let_out (is_one_of_kind kind.Decorator node) c (container_of container.TypeParameters x ∷ container_of container.OwnName x ∷ []) (not-true (is_one_of_kind kind.Decorator node) (inside_is (is_inside kind.Class r) false (is_one_of_kind kind.Decorator node) (t refl) i)) b
   member_of kind.TSInterfaceDeclaration c0 w i t a =
       one kind.TSInterfaceDeclaration (container_of container.TypeParameters x) c0 (among_if (not (is_one_of_kind kind.BindingIdentifier ch)) (container_of container.TypeParameters x ∷ []) c0 a)
       (plain_member kind.TSInterfaceDeclaration (container_of container.TypeParameters x) refl refl refl refl refl (λ e. let_in (not (is_one_of_kind kind.BindingIdentifier node)) (container_of container.TypeParameters x) (container_of container.TypeParameters x ∷ [])

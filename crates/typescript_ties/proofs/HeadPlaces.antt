@@ -17,6 +17,7 @@ use Rattle.semantic_model.specs.Inside.{is_inside, is_in_header}
 use Rattle.semantic_model.specs.Place.{Place, OpenScope, innermost, outside}
 use Rattle.semantic_model.specs.Step.{Step, entering, opening, header_ending, closing, leaving, steps, steps_below, root_place, child_place}
 use Rattle.semantic_model.proofs.form.ParameterChains.{is_open_inside}
+use Rattle.semantic_model.proofs.form.Clauses.{kind_is}
 use Rattle.semantic_model.proofs.form.Shape.{has_form}
 use Rattle.semantic_model.proofs.lists.Members.{among_cases}
 use Rattle.semantic_model.proofs.steps.EachStep.{EachOfTurn, each_left, each_of_node, each_of_turn, turn_of_each}
@@ -32,8 +33,9 @@ use Rattle.typescript_ties.proofs.ChildPlaces.{same_truth, is_function, tells_in
 use Rattle.typescript_ties.proofs.GroupNodes.{stands_by}
 use Rattle.typescript_ties.proofs.Heads.{is_of_header, HeadOf, head_of}
 use Rattle.typescript_ties.proofs.OutsidePlaces.{decorated, plain_round, plain_chain, outer_round, decorator_has, child_out}
-use Rattle.typescript_ties.proofs.ParameterLists.{is_list_kind, tells_parameters, tree_parameters, AllBefore, before_later, before_append, outside_before}
+use Rattle.typescript_ties.proofs.ParameterLists.{is_parameter_kind, is_list_kind, tells_parameters, tree_parameters, AllBefore, before_later, before_append, outside_before}
 use Rattle.typescript_ties.proofs.UndeclaredFree.{OfEntered, IsEnteredIn, all_entered}
+use Rattle.typescript_ties.proofs.Unheaded.{is_unheaded, stands_unheaded, tree_unheaded, child_unheaded}
 
 never : true ≡ false → ⊥
 never h = absurd cc
@@ -82,6 +84,7 @@ module _ (p : Tree) where
     pub before : same_kind q.node.kind kind.Program ≡ false → AllBefore q.node.node_id (round_place q)
     -- of a list of parameters, outside of the function
     pub out : is_list_kind q.node.kind ≡ true → HeadIn (outside q.chain) (outside_function (round_place q))
+    pub unheaded : is_unheaded q.node.kind ≡ true → (innermost q.chain).in_header ≡ false
 
   abbrev pub CommonStep : Step → Type 0
   CommonStep (entering q) = IsCommonPlace q
@@ -212,7 +215,7 @@ module _ (p : Tree) where
   module _ (q : Place) (entered : Among (entering q) (steps p)) (k : IsCommonPlace q) (r : Role) (node : Node) (text : List ℕ) (own : Option OpenScope) (cursor : ℕ) (params : tells_parameters q.node.kind r node.kind text ≡ true)
       (reached : is_inside q.node.kind r ≡ true → own ≡ None → ⊥) (own_is : OwnOf q own)
       (tells : tells_inside q.node.kind r node.kind text ≡ true) (headed : tells_header q.node.kind r node.kind text ≡ true)
-      (no_with : same_kind node.kind kind.WithStatement ≡ false) (later : suc q.node.node_id ≤ node.node_id) where
+      (no_with : same_kind node.kind kind.WithStatement ≡ false) (stands : stands_unheaded q.node.kind r node.kind text ≡ true) (later : suc q.node.node_id ≤ node.node_id) where
     abbrev child : Place
     child = child_place q own cursor r node
 
@@ -237,6 +240,12 @@ module _ (p : Tree) where
               (before_append node.node_id around (round_place q) (λ c a. (let w : c.node ≡ q.node.node_id = stands_by s q.node node q.path (round_place q) q.node.kind c a in omega (arith, w, later))) outer)
         ]
 
+    child_is_unheaded : is_unheaded node.kind ≡ true → (innermost child.chain).in_header ≡ false
+    child_is_unheaded u = elim (cases_Bool decorates) [
+      | inl e ↦ absurd (never (sym u ∙ subst (λ j. is_unheaded j ≡ false) (sym (kind_is node.kind kind.Decorator (and_second (is_parameter_kind q.node.kind) (same_kind node.kind kind.Decorator) e))) refl))
+      | inr e ↦ child_unheaded q.node.kind r node.kind text q.node q.chain child.chain k.unheaded stands (plain_chain s q r node text own cursor params reached own_is e) u
+    ]
+
     pub child_common : IsCommonPlace child
     child_common = record {
       head = child_at;
@@ -244,16 +253,17 @@ module _ (p : Tree) where
       source = k.source;
       up_to = before_later node.node_id (suc node.node_id) (round_place child) (omega arith) child_before;
       before = λ e. child_before;
+      unheaded = child_is_unheaded;
       out = child_out s q r node text own cursor params reached own_is HeadIn k.out k.before k.head;
     }
 
   -- ---- all children
 
   common_below : (q : Place) (own : Option OpenScope) (n cursor : ℕ) (f : Forest) (j : ℕ) → Among (entering q) (steps p) → IsCommonPlace q → OwnOf q own → numbered j f ≡ f → suc q.node.node_id ≤ j → is_common_forest f ≡ true
-      → holds_below tells_inside q.node.kind f ≡ true → holds_below tells_header q.node.kind f ≡ true → holds_below tells_parameters q.node.kind f ≡ true
+      → holds_below tells_inside q.node.kind f ≡ true → holds_below tells_header q.node.kind f ≡ true → holds_below tells_parameters q.node.kind f ≡ true → holds_below stands_unheaded q.node.kind f ≡ true
       → EachStep (OfEntered (IsEnteredIn (steps p))) (steps_below q own n cursor f) → EachStep CommonStep (steps_below q own n cursor f)
-  common_below q own n cursor nothing j a k o e l c t h i es = last_case (EachStep CommonStep) q own n tt (tt, (tt, tt))
-  common_below q own n cursor (tree r k2 span text marks below id after) j a k o e l c t h i es =
+  common_below q own n cursor nothing j a k o e l c t h i u es = last_case (EachStep CommonStep) q own n tt (tt, (tt, tt))
+  common_below q own n cursor (tree r k2 span text marks below id after) j a k o e l c t h i u es =
       let node : Node = record { kind = k2; span = span; text = text; marks = marks; children = below; node_id = id } in
       let turn : Turn = turn_at q own n cursor r node after in
       let entered : EachOfTurn (OfEntered (IsEnteredIn (steps p))) turn = turn_of_each (OfEntered (IsEnteredIn (steps p))) turn es in
@@ -262,22 +272,24 @@ module _ (p : Tree) where
       let tells : (holds_below tells_inside k2 below && holds_below tells_inside q.node.kind after) ≡ true = and_second (tells_inside q.node.kind r k2 text) (holds_below tells_inside k2 below && holds_below tells_inside q.node.kind after) t in
       let headed : (holds_below tells_header k2 below && holds_below tells_header q.node.kind after) ≡ true = and_second (tells_header q.node.kind r k2 text) (holds_below tells_header k2 below && holds_below tells_header q.node.kind after) h in
       let params : (holds_below tells_parameters k2 below && holds_below tells_parameters q.node.kind after) ≡ true = and_second (tells_parameters q.node.kind r k2 text) (holds_below tells_parameters k2 below && holds_below tells_parameters q.node.kind after) i in
+      let unheaded : (holds_below stands_unheaded k2 below && holds_below stands_unheaded q.node.kind after) ≡ true = and_second (stands_unheaded q.node.kind r k2 text) (holds_below stands_unheaded k2 below && holds_below stands_unheaded q.node.kind after) u in
       let own_is : OwnOf q turn.scope = own_of q r own n o in
       let child : IsCommonPlace turn.child = child_common q a k r node text turn.scope cursor
       (and_first (tells_parameters q.node.kind r k2 text) (holds_below tells_parameters k2 below && holds_below tells_parameters q.node.kind after) i)
       (is_open_inside q r own n) own_is
       (and_first (tells_inside q.node.kind r k2 text) (holds_below tells_inside k2 below && holds_below tells_inside q.node.kind after) t)
       (and_first (tells_header q.node.kind r k2 text) (holds_below tells_header k2 below && holds_below tells_header q.node.kind after) h)
-      (not-true (same_kind k2 kind.WithStatement) (and_first (is_common_child k2) (is_common_forest below && is_common_forest after) c)) (omega (arith, number.first, l)) in
+      (not-true (same_kind k2 kind.WithStatement) (and_first (is_common_child k2) (is_common_forest below && is_common_forest after) c))
+      (and_first (stands_unheaded q.node.kind r k2 text) (holds_below stands_unheaded k2 below && holds_below stands_unheaded q.node.kind after) u) (omega (arith, number.first, l)) in
       each_of_turn CommonStep turn (record {
         before = opening_case (EachStep CommonStep) q r own n tt (tt, tt);
         whole = each_of_node CommonStep turn.child turn.below child
             (common_below turn.child None turn.next turn.inner below (j + 1) entered.whole.0 child tt number.inner (omega (arith, number.first)) (and_first (is_common_forest below) (is_common_forest after) forests) (and_first (holds_below tells_inside k2 below) (holds_below tells_inside q.node.kind after) tells)
-            (and_first (holds_below tells_header k2 below) (holds_below tells_header q.node.kind after) headed) (and_first (holds_below tells_parameters k2 below) (holds_below tells_parameters q.node.kind after) params)
+            (and_first (holds_below tells_header k2 below) (holds_below tells_header q.node.kind after) headed) (and_first (holds_below tells_parameters k2 below) (holds_below tells_parameters q.node.kind after) params) (and_first (holds_below stands_unheaded k2 below) (holds_below stands_unheaded q.node.kind after) unheaded)
             (each_left (OfEntered (IsEnteredIn (steps p))) turn.below (leaving turn.child ∷ []) entered.whole.1)) tt;
         behind = ending_case (EachStep CommonStep) q r turn.scope after tt (λ o. (tt, tt)) (λ o. (tt, tt)) (λ o. (tt, (tt, tt)));
         others = common_below q turn.scope turn.rest turn.past after (j + 1 + count below) a k own_is number.others (omega (arith, l)) (and_second (is_common_forest below) (is_common_forest after) forests) (and_second (holds_below tells_inside k2 below) (holds_below tells_inside q.node.kind after) tells)
-            (and_second (holds_below tells_header k2 below) (holds_below tells_header q.node.kind after) headed) (and_second (holds_below tells_parameters k2 below) (holds_below tells_parameters q.node.kind after) params) entered.others;
+            (and_second (holds_below tells_header k2 below) (holds_below tells_header q.node.kind after) headed) (and_second (holds_below tells_parameters k2 below) (holds_below tells_parameters q.node.kind after) params) (and_second (holds_below stands_unheaded k2 below) (holds_below stands_unheaded q.node.kind after) unheaded) entered.others;
       })
 
   root_common : first_fault p ≡ None → IsCommonPlace (root_place p)
@@ -295,6 +307,7 @@ module _ (p : Tree) where
     up_to = (omega arith, tt);
     before = λ e. absurd (never (sym (ap (λ k. same_kind k kind.Program) (has_form p h).root) ∙ e));
     out = λ e. absurd (never (sym (subst (λ k. is_list_kind k ≡ true) (has_form p h).root e)));
+    unheaded = λ e. refl;
   }
     where
       at : (b : Bool) → is_apart (bound_container b (round_place (root_place p))).kind ≡ false → true ≡ false
@@ -317,4 +330,4 @@ module _ (p : Tree) where
       let es : EachStep (OfEntered (IsEnteredIn (steps p))) (steps p) = all_entered (steps p) (steps p) (λ st a. a) in
       let number : (p.root.node_id ≡ 0) × (numbered 1 p.root.children ≡ p.root.children) = root_numbered p e in
       each_of_node CommonStep root below (root_common h)
-      (common_below root None 0 n p.root.children 1 es.0 (root_common h) tt number.1 (omega (arith, number.0)) c (tree_tells p h) (tree_headed p h) (tree_parameters p h) (each_left (OfEntered (IsEnteredIn (steps p))) below (leaving root ∷ []) es.1)) tt
+      (common_below root None 0 n p.root.children 1 es.0 (root_common h) tt number.1 (omega (arith, number.0)) c (tree_tells p h) (tree_headed p h) (tree_parameters p h) (tree_unheaded p h) (each_left (OfEntered (IsEnteredIn (steps p))) below (leaving root ∷ []) es.1)) tt

@@ -39,9 +39,9 @@ pub false_not : (d : Bool) → not d ≡ false → d ≡ true
 false_not true h = refl
 false_not false h = absurd (never h)
 
--- what a header has: type parameters, and parameters
+-- what is seen in a header: type parameters, parameters and the own name
 abbrev pub is_of_header : Container → Bool
-is_of_header c = is_container container.TypeParameters c || is_container container.Parameters c
+is_of_header c = is_container container.TypeParameters c || (is_container container.Parameters c || is_container container.OwnName c)
 
 -- what is known of the container in which a child of a node declares
 pub record HeadFacts (k : AstType) (x child : Node) (g : List Container) (c : Container) : Type 0 where

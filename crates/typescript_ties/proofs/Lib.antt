@@ -10,9 +10,11 @@ pub mod ClearFold
 pub mod ClearTies
 pub mod TiedTogether
 pub mod ChildPlaces
+pub mod Unheaded
 pub mod Heads
 pub mod EnteredOnce
 pub mod ScopeOpeners
+pub mod OwnScopes
 pub mod ChildChains
 pub mod ParameterLists
 pub mod OutsidePlaces
@@ -32,5 +34,6 @@ pub mod ReferredNodes
 pub mod UntangledTies
 pub mod MergedBlocks
 pub mod SharedMembers
+pub mod EnumBodies
 pub mod OwnMembers
 pub mod SimpleByTrial

@@ -1,5 +1,5 @@
 -- A name that isn't tangled has the members to itself among which it is one.
-use Rattle.std.proofs.Common.{◌≡◌, ℕ, ◌==◌, [], ◌∷◌, Option, Some, None, true, false, ◌&&◌, refl, sym, ap, subst, ◌∙◌, inl, inr, ◌⊎◌, bytes_eq, codes}
+use Rattle.std.proofs.Common.{◌≡◌, ℕ, ◌==◌, [], ◌∷◌, Option, Some, None, true, false, ◌&&◌, refl, sym, ap, subst, ◌∙◌, inl, inr, ◌⊎◌, bytes_eq, codes, List}
 use Rattle.std.specs.Prelude.{slice_get}
 use Rattle.std.proofs.lemmas.Bool.{and_from}
 use Rattle.std.proofs.lemmas.Bool.Decides.{eqb_tells}
@@ -33,9 +33,10 @@ use Rattle.tangle_model.specs.Surroundings.{around_under}
 use Rattle.tangle_model.specs.Tangled.{merged_openers, is_merged_member, any_symbol}
 use Rattle.typescript_ties.specs.Containers.{Container, MemberPath, same_container_kind, same_names, same_members, same_container, path_below, containers}
 use Rattle.typescript_ties.specs.NamedDeclarations.{NamedDeclaration, named_in}
-use Rattle.typescript_ties.specs.SimpleNames.{is_common, is_apart, IsSimplyDeclared, HasOwnMembers, HasOwnEnums}
+use Rattle.typescript_ties.specs.SimpleNames.{is_common, is_apart, IsSimplyDeclared, HasOwnMembers}
 use Rattle.typescript_ties.specs.declared.container_kind.ContainerKind.TheVariants as container
 use Rattle.typescript_ties.proofs.AgreedPlaces.{any_there}
+use Rattle.typescript_ties.proofs.EnumBodies.{IsEnumOf, enum_of}
 use Rattle.typescript_ties.proofs.HeadPlaces.{HasOrigin, CommonStep, common_places, round_place}
 use Rattle.typescript_ties.proofs.MergedBlocks.{block_of, merged_opener, opened_node}
 use Rattle.typescript_ties.proofs.Pairs.{container_kind_is}
@@ -69,7 +70,7 @@ first_name a b c d (Some m) (Some n) h = name_is a b (and_first (bytes_eq a b) (
     name_is : (a b : Name) → bytes_eq a b ≡ true → a ≡ b
     name_is a b e = elim (name_tells a b) [ inl i ↦ i.1 | inr i ↦ absurd (never (sym e ∙ i.0)) ]
 
-module _ (p : Tree) (h : first_fault p ≡ None) (common : is_common p ≡ true) (typed : is_typescript p.source_type ≡ true) (numbered : IsNumbered p.root) (x : Name) (simply : IsSimplyDeclared p x) (enums : HasOwnEnums p x)
+module _ (p : Tree) (h : first_fault p ≡ None) (common : is_common p ≡ true) (typed : is_typescript p.source_type ≡ true) (numbered : IsNumbered p.root) (x : Name) (simply : IsSimplyDeclared p x)
     (unmerged : any_symbol (is_merged_member (mentions p) (tables_of p)) (tables_of p).symbols x ≡ false) where
   abbrev final : State
   final = run start (events (steps p))
@@ -121,6 +122,14 @@ module _ (p : Tree) (h : first_fault p ≡ None) (common : is_common p ≡ true)
   global_noted : (q : Place) → Among (entering q) (steps p) → q.node.kind ≡ kind.TSGlobalDeclaration → Among (block_of q.node.node_id (codes "global")) (mentions p)
   global_noted q a k = noted q (block_of q.node.node_id (codes "global")) a (subst (λ z. Among (block_of q.node.node_id (codes "global")) (noted_by z (around_under p.source_type q.path) q.node)) (sym k) (inl refl))
 
+  enum_noted : (q : Place) → Among (entering q) (steps p) → q.node.kind ≡ kind.TSEnumBody → (y : Node) (above : List Node) → q.path ≡ y ∷ above → (id : Node) → child_of role.Id y ≡ Some id → Among (block_of q.node.node_id id.text) (mentions p)
+  enum_noted q a k y above e id i =
+      let enum : IsEnumOf p q y = enum_of p h q a k y above e in
+      let is_enum : enum.place.node.kind ≡ kind.TSEnumDeclaration = ap (λ z. z.kind) enum.node ∙ enum.kind in
+      let named : child_of role.Id enum.place.node ≡ Some id = ap (child_of role.Id) enum.node ∙ i in
+      let body : child_of role.Body enum.place.node ≡ Some q.node = ap (child_of role.Body) enum.node ∙ enum.body in
+      noted enum.place (block_of q.node.node_id id.text) enum.entered (subst (λ z. Among (block_of q.node.node_id id.text) (noted_by z (around_under p.source_type enum.place.path) enum.place.node)) (sym is_enum) (rw (named, body) (inl refl)))
+
   -- ---- members
 
   module _ (n : NamedDeclaration) (a : Among n (named_in p)) (e : n.name ≡ x) (q : Place) (entered : Among (entering q) (steps p)) (c : Container) (there : Among c (containers p.source_type q.node q.path)) (same : same_container n.container c ≡ true) where
@@ -171,27 +180,32 @@ module _ (p : Tree) (h : first_fault p ≡ None) (common : is_common p ≡ true)
     pub same_node : n.container.node ≡ c.node
     same_node = by (member_sort p.source_type mine.place.node mine.child mine.place.path (round_place p mine.place) mine.place.node.kind n.container mine.among) (member_sort p.source_type theirs.place.node theirs.child theirs.place.path (round_place p theirs.place) theirs.place.node.kind c theirs.among)
       where
-        by : MemberSort mine.place.node.kind mine.place.node n.container → MemberSort theirs.place.node.kind theirs.place.node c → n.container.node ≡ c.node
+        by : MemberSort mine.place.node.kind mine.place.node mine.place.path n.container → MemberSort theirs.place.node.kind theirs.place.node theirs.place.path c → n.container.node ≡ c.node
         by (unshared i) s = by_node i
         by (of_namespace k i id f d g) (unshared j) = by_their_node j
         by (of_namespace k i id f d g) (of_namespace k' i' id' f' d' g') =
             one_block id.text id'.text (first_name id.text id'.text d d' d.members d'.members (names_same (path_below id.text d d.members) (path_below id'.text d' d'.members) g g')) (namespace_noted mine.place mine.entered k id f) (namespace_noted theirs.place theirs.entered k' id' f')
         by (of_namespace k i id f d g) (of_module k' i' id' f' d' g') = absurd (let z : container.NamespaceMembers ≡ container.ModuleMembers = sym i ∙ kinds ∙ i' in absurd cc)
         by (of_namespace k i id f d g) (of_globals k' i') = absurd (let z : container.NamespaceMembers ≡ container.GlobalMembers = sym i ∙ kinds ∙ i' in absurd cc)
-        by (of_namespace k i id f d g) (of_enum i') = absurd (let z : container.NamespaceMembers ≡ container.EnumMembers = sym i ∙ kinds ∙ i' in absurd cc)
+        by (of_namespace k i id f d g) (of_enum k' i' y' a' e' id' f' d' g') = absurd (let z : container.NamespaceMembers ≡ container.EnumMembers = sym i ∙ kinds ∙ i' in absurd cc)
         by (of_module k i id f d g) (unshared j) = by_their_node j
         by (of_module k i id f d g) (of_module k' i' id' f' d' g') =
             one_block id.text id'.text (rest_same id.text id'.text (first_name (39 ∷ id.text) (39 ∷ id'.text) d d' d.members d'.members (names_same (path_below (39 ∷ id.text) d d.members) (path_below (39 ∷ id'.text) d' d'.members) g g')))
             (module_noted mine.place mine.entered k id f) (module_noted theirs.place theirs.entered k' id' f')
         by (of_module k i id f d g) (of_namespace k' i' id' f' d' g') = absurd (let z : container.ModuleMembers ≡ container.NamespaceMembers = sym i ∙ kinds ∙ i' in absurd cc)
         by (of_module k i id f d g) (of_globals k' i') = absurd (let z : container.ModuleMembers ≡ container.GlobalMembers = sym i ∙ kinds ∙ i' in absurd cc)
-        by (of_module k i id f d g) (of_enum i') = absurd (let z : container.ModuleMembers ≡ container.EnumMembers = sym i ∙ kinds ∙ i' in absurd cc)
+        by (of_module k i id f d g) (of_enum k' i' y' a' e' id' f' d' g') = absurd (let z : container.ModuleMembers ≡ container.EnumMembers = sym i ∙ kinds ∙ i' in absurd cc)
         by (of_globals k i) (unshared j) = by_their_node j
         by (of_globals k i) (of_globals k' i') = one_block (codes "global") (codes "global") refl (global_noted mine.place mine.entered k) (global_noted theirs.place theirs.entered k')
         by (of_globals k i) (of_namespace k' i' id' f' d' g') = absurd (let z : container.GlobalMembers ≡ container.NamespaceMembers = sym i ∙ kinds ∙ i' in absurd cc)
         by (of_globals k i) (of_module k' i' id' f' d' g') = absurd (let z : container.GlobalMembers ≡ container.ModuleMembers = sym i ∙ kinds ∙ i' in absurd cc)
-        by (of_globals k i) (of_enum i') = absurd (let z : container.GlobalMembers ≡ container.EnumMembers = sym i ∙ kinds ∙ i' in absurd cc)
-        by (of_enum i) s = enums n a e i q entered c there same
+        by (of_globals k i) (of_enum k' i' y' a' e' id' f' d' g') = absurd (let z : container.GlobalMembers ≡ container.EnumMembers = sym i ∙ kinds ∙ i' in absurd cc)
+        by (of_enum k i y a e id f d g) (unshared j) = by_their_node j
+        by (of_enum k i y a e id f d g) (of_enum k' i' y' a' e' id' f' d' g') =
+            one_block id.text id'.text (first_name id.text id'.text d d' d.members d'.members (names_same (path_below id.text d d.members) (path_below id'.text d' d'.members) g g')) (enum_noted mine.place mine.entered k y a e id f) (enum_noted theirs.place theirs.entered k' y' a' e' id' f')
+        by (of_enum k i y a e id f d g) (of_namespace k' i' id' f' d' g') = absurd (let z : container.EnumMembers ≡ container.NamespaceMembers = sym i ∙ kinds ∙ i' in absurd cc)
+        by (of_enum k i y a e id f d g) (of_module k' i' id' f' d' g') = absurd (let z : container.EnumMembers ≡ container.ModuleMembers = sym i ∙ kinds ∙ i' in absurd cc)
+        by (of_enum k i y a e id f d g) (of_globals k' i') = absurd (let z : container.EnumMembers ≡ container.GlobalMembers = sym i ∙ kinds ∙ i' in absurd cc)
 
   pub own_members : HasOwnMembers p x
   own_members n a e q entered c there same = same_node n a e q entered c there same

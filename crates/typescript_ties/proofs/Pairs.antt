@@ -1,5 +1,5 @@
 -- Each declaration that the tables are told with the one of the language that it is.
-use Rattle.std.proofs.Common.{◌≡◌, ℕ, List, [], ◌∷◌, ◌++◌, None, Bool, true, false, ◌&&◌, ◌||◌, not, cond, map, flat_map, refl, sym, ap, subst, ◌∙◌, inl, inr, ◌⊎◌, codes, if◌then◌else◌}
+use Rattle.std.proofs.Common.{◌≡◌, ℕ, suc, List, [], ◌∷◌, ◌++◌, None, Bool, true, false, ◌&&◌, ◌||◌, not, cond, map, flat_map, refl, sym, ap, subst, ◌∙◌, inl, inr, ◌⊎◌, codes, if◌then◌else◌}
 use Rattle.std.specs.List.{list_any}
 use Rattle.semantic_kinds.specs.Kinds.{same_kind}
 use Rattle.semantic_kinds.specs.declared.kind.AstType.{AstType}
@@ -16,6 +16,7 @@ use Rattle.semantic_tree.specs.declared.node.Node.{Node}
 use Rattle.semantic_model.specs.Binder.{BinderRow, declaration_at, ambient_if, is_var, is_special, is_statement, lexical_flags, variable_row, variables_under, is_pure_declarator, is_block_function, is_clause, is_conditional, function_excluded, class_row, parameter_excluded, parameters_under, catch_names, marked_ambient, member_named, namespace_row, type_parameter_row, ids, declared_by, declared_inside}
 use Rattle.semantic_model.specs.Declaration.{Declaration, Route, plain, hoisted, moved, caught, here, passed_before, route_from, outward_to, outward_past}
 use Rattle.semantic_model.specs.Entries.{Among}
+use Rattle.semantic_model.specs.Inside.{opens, body_number}
 use Rattle.semantic_model.specs.Names.{bound_names, bound_below, names_at}
 use Rattle.semantic_model.specs.Namespace.{InstanceState, non_instantiated, const_enum_only, instantiated, instance_state, nodes_around}
 use Rattle.semantic_model.specs.Place as place
@@ -26,7 +27,7 @@ use Rattle.std.proofs.lemmas.List.{append-nil, map-append}
 use denote.Enum.Bare.{same_true}
 use Rattle.typescript_ties.specs.contracts.container_kind.ContainerKind.{the_type as the_container_kinds}
 use Rattle.typescript_ties.specs.declared.container_kind.ContainerKind.{ContainerKind}
-use Rattle.typescript_ties.specs.Containers.{Container, is_container, same_container_kind, same_container, container_of, bound_container, is_exported_under}
+use Rattle.typescript_ties.specs.Containers.{Container, is_container, same_container_kind, same_container, container_of, bound_container, is_exported_under, containers_by}
 use Rattle.typescript_ties.specs.DeclaredNames.{told_to_tables, told_by_language}
 use Rattle.typescript_ties.specs.MeaningSets.{sort_meanings}
 use Rattle.typescript_ties.specs.NamedDeclarations.{NamedDeclaration, named_declaration, global_besides, declared_here, imported_as, from_first_taking, declared_outward, variables_named, leaves_its_block, namespace_sort, first_condition, named_by_node}
@@ -34,13 +35,16 @@ use Rattle.typescript_ties.specs.SimpleNames.{is_simple_sort, is_apart, is_simpl
 use Rattle.typescript_ties.specs.declared.container_kind.ContainerKind.TheVariants as container
 use Rattle.typescript_ties.specs.declared.declaration_sort.DeclarationSort.{DeclarationSort}
 use Rattle.typescript_ties.specs.declared.declaration_sort.DeclarationSort.TheVariants as sort
+use Rattle.typescript_ties.proofs.ChildPlaces.{is_function}
 use Rattle.typescript_ties.proofs.Heads.{is_of_header}
 use Rattle.typescript_ties.proofs.HeadPlaces.{HeadAt, HasOrigin, IsHeaded, IsCommonPlace, round_place}
 use Rattle.typescript_ties.proofs.KnownPlaces.{is_bare_rest}
 use Rattle.typescript_ties.proofs.LikeFlags.{IsVariable}
 use Rattle.typescript_ties.proofs.VarPlaces.{is_statement_kind}
 use Rattle.typescript_ties.proofs.VarRoutes.{TakesIn, StandsWell}
+use Rattle.typescript_ties.proofs.ScopeOpeners.{openers, IsOpened, AllOpened, among_opened}
 use Rattle.typescript_ties.proofs.SimpleOnes.{sort_is_simple, is_not_apart}
+use Rattle.typescript_ties.proofs.Unheaded.{is_unheaded}
 
 never : true ≡ false → ⊥
 never h = absurd cc
@@ -55,8 +59,7 @@ map_among g (z ∷ xs) x (inr a) = inr (map_among g xs x a)
 
 -- the flags of a sort
 pub record FlagsAre (k : DeclarationSort) (flags : ℕ) : Type 0 where
-  pub value : meets flags symbol.ByValue.bits ≡ (sort_meanings k).value
-  pub as_type : meets flags symbol.ByValueAsType.bits ≡ (sort_meanings k).value
+  pub value : meets flags symbol.ByValueAsType.bits ≡ (sort_meanings k).value
   pub is_type : meets flags symbol.ByType.bits ≡ (sort_meanings k).is_type
   pub namespace : meets flags symbol.AsNamespace.bits ≡ (sort_meanings k).namespace
   pub no_own : meets flags symbol.FunctionExpression.bits ≡ false
@@ -71,10 +74,9 @@ module _ (p : Tree) where
     pub lasting : w.route.target.body ≡ None
     pub in_body : is_container container.Body n.container ≡ true → w.route.target.in_header ≡ false
     pub in_header : is_of_header n.container ≡ true → IsHeaded p w.route.target
+    pub unheaded : (sort_meanings n.sort).namespace ≡ true → w.route.target.in_header ≡ false
     pub origin : HasOrigin p n.container
-    pub place : Place
-    pub entered : Among (entering place) (steps p)
-    pub scope : Among w.route.target place.chain ⊎ (w.route.target ≡ innermost place.chain)
+    pub opened : IsOpened (openers (steps p)) w.route.target
 
   -- a scope round a variable's place stands for a container that the variable passes
   pub record IsPassedAs (q : Place) (z : OpenScope) : Type 0 where
@@ -134,7 +136,8 @@ module _ (p : Tree) where
 
   -- ---- one place
 
-  module _ (q : Place) (entered : Among (entering q) (steps p)) (k : IsCommonPlace p q) (well : StandsWell p q) (typed : is_typescript s ≡ true) (count : ℕ) where
+  module _ (q : Place) (entered : Among (entering q) (steps p)) (k : IsCommonPlace p q) (well : StandsWell p q) (typed : is_typescript s ≡ true) (count : ℕ)
+      (chain_opened : AllOpened (openers (steps p)) q.chain) (head_opened : IsOpened (openers (steps p)) (innermost q.chain)) (own_opened : opens q.node.kind ≡ true → IsOpened (openers (steps p)) (opened_scope q count)) where
     abbrev cs : List Container
     cs = round_place p q
 
@@ -148,9 +151,16 @@ module _ (p : Tree) where
     origin_of c a (inl i) = absurd (never (sym i ∙ a))
     origin_of c a (inr o) = o
 
+    -- what may be a namespace is declared by a node that stands in no header
+    abbrev IsUnheaded : DeclarationSort → Type 0
+    IsUnheaded j = (sort_meanings j).namespace ≡ true → is_unheaded q.node.kind ≡ true
+
+    no_namespace : (b : Bool) → false ≡ true → b ≡ true
+    no_namespace b i = absurd (never (sym i))
+
     -- declared where the node stands
-    at_head : (w : Declaration) (n : NamedDeclaration) (b : Bool) → w.route.target ≡ innermost q.chain → n.container ≡ bound_container b cs → is_apart n.container.kind ≡ false → IsAtHome w n
-    at_head w n b t e a =
+    at_head : (w : Declaration) (n : NamedDeclaration) (b : Bool) → w.route.target ≡ innermost q.chain → n.container ≡ bound_container b cs → is_apart n.container.kind ≡ false → IsUnheaded n.sort → IsAtHome w n
+    at_head w n b t e a u =
         let h : HeadAt p q = k.head in
         let free : is_apart (bound_container b cs).kind ≡ false = subst (λ c. is_apart c.kind ≡ false) e a in
         record {
@@ -158,17 +168,16 @@ module _ (p : Tree) where
           lasting = ap (λ o. o.body) t ∙ h.lasting b free;
           in_body = λ i. ap (λ o. o.in_header) t ∙ h.in_body b (subst (λ c. is_container container.Body c ≡ true) e i);
           in_header = λ i. subst (IsHeaded p) (sym t) (h.in_header b (subst (λ c. is_of_header c ≡ true) e i));
-          place = q;
-          entered = entered;
-          scope = inr t;
+          unheaded = λ i. ap (λ o. o.in_header) t ∙ k.unheaded (u i);
+          opened = subst (IsOpened (openers (steps p))) (sym t) head_opened;
           origin = origin_of n.container a (h.origin n.container (subst (λ c. Among c cs) (sym e) (h.among b free)));
         }
 
-    pair_here : (flags excluded : ℕ) (pure : Bool) (j : DeclarationSort) (b : Bool) (also : List Container) → FlagsAre j flags → ((c : Container) → same_container_kind container.Globals c.kind ≡ false → list_any (λ e. same_container e c) also ≡ false) → (id : Node)
+    pair_here : (flags excluded : ℕ) (pure : Bool) (j : DeclarationSort) (b : Bool) (also : List Container) → IsUnheaded j → FlagsAre j flags → ((c : Container) → same_container_kind container.Globals c.kind ≡ false → list_any (λ e. same_container e c) also ≡ false) → (id : Node)
         → IsPair (declaration_at q.node (record { flags = flags; excluded = excluded; how = plain; route = here q.chain }) pure id) (named_declaration j (bound_container b cs) also id)
-    pair_here flags excluded pure j b also f g id = record {
+    pair_here flags excluded pure j b also u f g id = record {
       told = refl;
-      simple = λ e. record { how = stays refl; flags = f; home = at_head (declaration_at q.node (record { flags = flags; excluded = excluded; how = plain; route = here q.chain }) pure id) (named_declaration j (bound_container b cs) also id) b refl refl (not_apart (named_declaration j (bound_container b cs) also id) e); also = g };
+      simple = λ e. record { how = stays refl; flags = f; home = at_head (declaration_at q.node (record { flags = flags; excluded = excluded; how = plain; route = here q.chain }) pure id) (named_declaration j (bound_container b cs) also id) b refl refl (not_apart (named_declaration j (bound_container b cs) also id) e) u; also = g };
     }
 
     nothing_else : (c : Container) → same_container_kind container.Globals c.kind ≡ false → list_any (λ e. same_container e c) [] ≡ false
@@ -182,17 +191,30 @@ module _ (p : Tree) where
         go true = rw e refl
         go false = refl
 
-    sort_here : (flags excluded : ℕ) (pure : Bool) (j : DeclarationSort) → FlagsAre j flags → (id : Node)
+    sort_here : (flags excluded : ℕ) (pure : Bool) (j : DeclarationSort) → IsUnheaded j → FlagsAre j flags → (id : Node)
         → IsPair (declaration_at q.node (record { flags = flags; excluded = excluded; how = plain; route = here q.chain }) pure id) (declared_here j s q.node q.path id)
-    sort_here flags excluded pure j f id =
+    sort_here flags excluded pure j u f id =
         let b : Bool = is_exported_under s q.path in
-        pair_here flags excluded pure j b (global_besides (bound_container b cs)) f (beside (bound_container b cs)) id
+        pair_here flags excluded pure j b (global_besides (bound_container b cs)) u f (beside (bound_container b cs)) id
 
-    import_here : (flags excluded : ℕ) (j : DeclarationSort) → FlagsAre j flags → (id : Node)
+    import_here : (flags excluded : ℕ) (j : DeclarationSort) → IsUnheaded j → FlagsAre j flags → (id : Node)
         → IsPair (declaration_at q.node (record { flags = flags; excluded = excluded; how = plain; route = here q.chain }) false id) (imported_as j s q.node q.path id)
-    import_here flags excluded j f id =
+    import_here flags excluded j u f id =
         let b : Bool = place.parent_holds (is kind.ExportDeclaration) q.path in
-        pair_here flags excluded false j b (global_besides (bound_container b cs)) f (beside (bound_container b cs)) id
+        pair_here flags excluded false j b (global_besides (bound_container b cs)) u f (beside (bound_container b cs)) id
+
+    -- declared in the scope that the node opens
+    own_home : (w : Declaration) (n : NamedDeclaration) → w.route.target ≡ own → n.container.node ≡ q.node.node_id → Among n.container (containers_by q.node.kind s q.node q.path cs q.node) → opens q.node.kind ≡ true → same_kind q.node.kind kind.CatchClause ≡ false
+        → is_container container.Body n.container ≡ false → (is_of_header n.container ≡ true → is_function q.node.kind ≡ false) → (sort_meanings n.sort).namespace ≡ false → IsAtHome w n
+    own_home w n t at among o no_clause no_body no_function typed = record {
+      opener = ap (λ z. z.opener) t ∙ sym at;
+      lasting = ap (λ z. z.body) t ∙ ap (λ b. cond b (body_number (suc count) q.node.children) None) no_clause;
+      in_body = λ i. absurd (never (sym i ∙ no_body));
+      in_header = λ i. record { place = q; entered = entered; opener = ap (λ z. z.opener) t; header = λ j. absurd (never (sym j ∙ no_function i)) };
+      unheaded = λ i. absurd (never (sym i ∙ typed));
+      opened = subst (IsOpened (openers (steps p))) (sym t) (own_opened o);
+      origin = record { place = q; entered = entered; child = q.node; among = among; stands = at };
+    }
 
     -- of a sort that isn't simple
     unsimple : (w : Declaration) (n : NamedDeclaration) → is_simple_sort n.sort ≡ false → told_to_tables w ≡ told_by_language n → IsPair w n
@@ -204,60 +226,70 @@ module _ (p : Tree) where
     Paired j = AllPairs (declared_inside j q own ++ declared_by j q) (named_by_node j s q.node q.path)
 
     variable_are : (a : Bool) → FlagsAre sort.Var (union symbol.FunctionScopedVariable.bits (ambient_if a))
-    variable_are true = record { value = refl; as_type = refl; is_type = refl; namespace = refl; no_own = refl }
-    variable_are false = record { value = refl; as_type = refl; is_type = refl; namespace = refl; no_own = refl }
+    variable_are true = record { value = refl; is_type = refl; namespace = refl; no_own = refl }
+    variable_are false = record { value = refl; is_type = refl; namespace = refl; no_own = refl }
 
     lexical_are : (t a : Bool) → FlagsAre sort.Lexical (union (cond t symbol.BlockScopedVariable.bits (union symbol.BlockScopedVariable.bits symbol.ConstVariable.bits)) (ambient_if a))
-    lexical_are true true = record { value = refl; as_type = refl; is_type = refl; namespace = refl; no_own = refl }
-    lexical_are true false = record { value = refl; as_type = refl; is_type = refl; namespace = refl; no_own = refl }
-    lexical_are false true = record { value = refl; as_type = refl; is_type = refl; namespace = refl; no_own = refl }
-    lexical_are false false = record { value = refl; as_type = refl; is_type = refl; namespace = refl; no_own = refl }
+    lexical_are true true = record { value = refl; is_type = refl; namespace = refl; no_own = refl }
+    lexical_are true false = record { value = refl; is_type = refl; namespace = refl; no_own = refl }
+    lexical_are false true = record { value = refl; is_type = refl; namespace = refl; no_own = refl }
+    lexical_are false false = record { value = refl; is_type = refl; namespace = refl; no_own = refl }
 
     function_are : (a t : Bool) → FlagsAre sort.Function (union (union symbol.Function.bits (ambient_if a)) (union 0 (cond t symbol.AsyncOrGeneratorFunction.bits 0)))
-    function_are true true = record { value = refl; as_type = refl; is_type = refl; namespace = refl; no_own = refl }
-    function_are true false = record { value = refl; as_type = refl; is_type = refl; namespace = refl; no_own = refl }
-    function_are false true = record { value = refl; as_type = refl; is_type = refl; namespace = refl; no_own = refl }
-    function_are false false = record { value = refl; as_type = refl; is_type = refl; namespace = refl; no_own = refl }
+    function_are true true = record { value = refl; is_type = refl; namespace = refl; no_own = refl }
+    function_are true false = record { value = refl; is_type = refl; namespace = refl; no_own = refl }
+    function_are false true = record { value = refl; is_type = refl; namespace = refl; no_own = refl }
+    function_are false false = record { value = refl; is_type = refl; namespace = refl; no_own = refl }
 
     class_are : (a : Bool) → FlagsAre sort.Class (union symbol.Class.bits (ambient_if a))
-    class_are true = record { value = refl; as_type = refl; is_type = refl; namespace = refl; no_own = refl }
-    class_are false = record { value = refl; as_type = refl; is_type = refl; namespace = refl; no_own = refl }
+    class_are true = record { value = refl; is_type = refl; namespace = refl; no_own = refl }
+    class_are false = record { value = refl; is_type = refl; namespace = refl; no_own = refl }
+
+    class_name_are : (a : Bool) → FlagsAre sort.ClassName (union symbol.Class.bits (ambient_if a))
+    class_name_are true = record { value = refl; is_type = refl; namespace = refl; no_own = refl }
+    class_name_are false = record { value = refl; is_type = refl; namespace = refl; no_own = refl }
 
     alias_are : (a : Bool) → FlagsAre sort.TypeAlias (union symbol.TypeAlias.bits (ambient_if a))
-    alias_are true = record { value = refl; as_type = refl; is_type = refl; namespace = refl; no_own = refl }
-    alias_are false = record { value = refl; as_type = refl; is_type = refl; namespace = refl; no_own = refl }
+    alias_are true = record { value = refl; is_type = refl; namespace = refl; no_own = refl }
+    alias_are false = record { value = refl; is_type = refl; namespace = refl; no_own = refl }
 
     interface_are : (a : Bool) → FlagsAre sort.Interface (union symbol.Interface.bits (ambient_if a))
-    interface_are true = record { value = refl; as_type = refl; is_type = refl; namespace = refl; no_own = refl }
-    interface_are false = record { value = refl; as_type = refl; is_type = refl; namespace = refl; no_own = refl }
+    interface_are true = record { value = refl; is_type = refl; namespace = refl; no_own = refl }
+    interface_are false = record { value = refl; is_type = refl; namespace = refl; no_own = refl }
 
     const_enum_are : (a : Bool) → FlagsAre sort.Enum (union symbol.ConstEnum.bits (ambient_if a))
-    const_enum_are true = record { value = refl; as_type = refl; is_type = refl; namespace = refl; no_own = refl }
-    const_enum_are false = record { value = refl; as_type = refl; is_type = refl; namespace = refl; no_own = refl }
+    const_enum_are true = record { value = refl; is_type = refl; namespace = refl; no_own = refl }
+    const_enum_are false = record { value = refl; is_type = refl; namespace = refl; no_own = refl }
 
     enum_are : (a : Bool) → FlagsAre sort.Enum (union symbol.RegularEnum.bits (ambient_if a))
-    enum_are true = record { value = refl; as_type = refl; is_type = refl; namespace = refl; no_own = refl }
-    enum_are false = record { value = refl; as_type = refl; is_type = refl; namespace = refl; no_own = refl }
+    enum_are true = record { value = refl; is_type = refl; namespace = refl; no_own = refl }
+    enum_are false = record { value = refl; is_type = refl; namespace = refl; no_own = refl }
 
     type_namespace_are : (a : Bool) → FlagsAre sort.TypeNamespace (union symbol.NamespaceModule.bits (ambient_if a))
-    type_namespace_are true = record { value = refl; as_type = refl; is_type = refl; namespace = refl; no_own = refl }
-    type_namespace_are false = record { value = refl; as_type = refl; is_type = refl; namespace = refl; no_own = refl }
+    type_namespace_are true = record { value = refl; is_type = refl; namespace = refl; no_own = refl }
+    type_namespace_are false = record { value = refl; is_type = refl; namespace = refl; no_own = refl }
 
     namespace_are : (a : Bool) → FlagsAre sort.ValueNamespace (union symbol.ValueModule.bits (ambient_if a))
-    namespace_are true = record { value = refl; as_type = refl; is_type = refl; namespace = refl; no_own = refl }
-    namespace_are false = record { value = refl; as_type = refl; is_type = refl; namespace = refl; no_own = refl }
+    namespace_are true = record { value = refl; is_type = refl; namespace = refl; no_own = refl }
+    namespace_are false = record { value = refl; is_type = refl; namespace = refl; no_own = refl }
 
     import_are : FlagsAre sort.Import symbol.Import.bits
-    import_are = record { value = refl; as_type = refl; is_type = refl; namespace = refl; no_own = refl }
+    import_are = record { value = refl; is_type = refl; namespace = refl; no_own = refl }
+
+    type_import_are : FlagsAre sort.TypeImport symbol.TypeImport.bits
+    type_import_are = record { value = refl; is_type = refl; namespace = refl; no_own = refl }
 
     member_are : FlagsAre sort.EnumMember symbol.EnumMember.bits
-    member_are = record { value = refl; as_type = refl; is_type = refl; namespace = refl; no_own = refl }
+    member_are = record { value = refl; is_type = refl; namespace = refl; no_own = refl }
+
+    key_are : FlagsAre sort.MappedKey symbol.TypeParameter.bits
+    key_are = record { value = refl; is_type = refl; namespace = refl; no_own = refl }
 
     value_parameter_are : FlagsAre sort.Parameter symbol.FunctionScopedVariable.bits
-    value_parameter_are = record { value = refl; as_type = refl; is_type = refl; namespace = refl; no_own = refl }
+    value_parameter_are = record { value = refl; is_type = refl; namespace = refl; no_own = refl }
 
     parameter_are : FlagsAre sort.TypeParameter symbol.TypeParameter.bits
-    parameter_are = record { value = refl; as_type = refl; is_type = refl; namespace = refl; no_own = refl }
+    parameter_are = record { value = refl; is_type = refl; namespace = refl; no_own = refl }
 
     passed_in : (chain : List OpenScope) (z : OpenScope) → Among z (passed_before is_var chain) → Among z chain
     passed_in [] z a = absurd a
@@ -301,9 +333,8 @@ module _ (p : Tree) where
         in_body = λ i. ap (λ (o : OpenScope). o.in_header) target_is ∙ t.in_body;
         in_header = λ i. absurd (never (sym i ∙ t.no_header exported));
         origin = origin_of (out id).container (t.free exported) (k.head.origin (out id).container (t.among exported));
-        place = q;
-        entered = entered;
-        scope = inl (subst (λ o. Among o q.chain) (sym target_is) t.among_scopes);
+        unheaded = λ i. absurd (never (sym i));
+        opened = among_opened (openers (steps p)) q.chain (outward_to is_var q.chain).target chain_opened (subst (λ o. Among o q.chain) (sym target_is) t.among_scopes);
       }
 
       var_pair : (id : Node) → Among (out id) (named_by_node q.node.kind s q.node q.path) → IsPair (declaration_at q.node far pure id) (out id)
@@ -345,13 +376,13 @@ module _ (p : Tree) where
 
         by : (b : Bool) → var ≡ b → (id : Node) → Among id (bound_names q.node) → IsPair (declaration_at q.node (if b then far declaration t else near) (is_pure_declarator q.node) id) (cond b (declared_outward sort.Var s q.node q.path) (declared_here sort.Lexical s q.node q.path) id)
         by true v id a = var_pair declaration t id (named_so v id a)
-        by false v id a = sort_here (union (lexical_flags declaration) (marked_ambient declaration)) symbol.BlockScopedVariableExcludes.bits (is_pure_declarator q.node) sort.Lexical (lexical_are let_text (has mark.Declare declaration)) id
+        by false v id a = sort_here (union (lexical_flags declaration) (marked_ambient declaration)) symbol.BlockScopedVariableExcludes.bits (is_pure_declarator q.node) sort.Lexical (no_namespace (is_unheaded q.node.kind)) (lexical_are let_text (has mark.Declare declaration)) id
 
     parameter_pairs : (path : List Node) → (path ≡ [] → ⊥) → AllPairs (parameters_under path q) (map (named_declaration sort.Parameter (bound_container false cs) []) (bound_names q.node))
     parameter_pairs [] e = absurd (e refl)
     parameter_pairs (list ∷ path) e =
         map_pairs (declaration_at q.node (record { flags = symbol.FunctionScopedVariable.bits; excluded = parameter_excluded list q.chain; how = plain; route = here q.chain }) false) (named_declaration sort.Parameter (bound_container false cs) []) (bound_names q.node)
-        (pair_here symbol.FunctionScopedVariable.bits (parameter_excluded list q.chain) false sort.Parameter false [] value_parameter_are nothing_else)
+        (pair_here symbol.FunctionScopedVariable.bits (parameter_excluded list q.chain) false sort.Parameter false [] (no_namespace (is_unheaded q.node.kind)) value_parameter_are nothing_else)
 
     catch_pairs : (patterns : List Node) → AllPairs (flat_map (catch_names q) patterns) (map (named_declaration sort.CatchName (bound_container false cs) []) (flat_map bound_names patterns))
     catch_pairs [] = tt
@@ -400,7 +431,7 @@ module _ (p : Tree) where
 
         near_or_far : (t : Bool) (id : Node) → IsPair (declaration_at q.node (row_by true false) pure id) (cond t far near id)
         near_or_far true id = unsimple (declaration_at q.node (row_by true false) pure id) (far id) refl refl
-        near_or_far false id = sort_here (flags_by true) (function_excluded q) pure sort.Function (function_are (has mark.Declare q.node) (is_special q.node)) id
+        near_or_far false id = sort_here (flags_by true) (function_excluded q) pure sort.Function (no_namespace (is_unheaded q.node.kind)) (function_are (has mark.Declare q.node) (is_special q.node)) id
 
         declared : (t : Bool) → t ≡ false → AllPairs (map (declaration_at q.node (row_by true t) pure) (ids q.node)) (map (cond (leaves_its_block s q.node q.path) far near) (ids q.node))
         declared true e = absurd (never e)
@@ -414,54 +445,72 @@ module _ (p : Tree) where
             let w : Node → Declaration = declaration_at q.node (record { flags = flags_by false; excluded = function_excluded q; how = plain; route = here (own ∷ []) }) pure in
             map_pairs_last w (named_declaration sort.FunctionName (container_of container.OwnName q.node) []) (ids q.node) (λ id. unsimple (w id) (named_declaration sort.FunctionName (container_of container.OwnName q.node) [] id) refl refl)
 
-    class_pairs : Paired kind.Class
-    class_pairs = go (is_statement q.node)
+    class_pairs : q.node.kind ≡ kind.Class → Paired kind.Class
+    class_pairs e = go (is_statement q.node)
       where
         own_name : Node → NamedDeclaration
         own_name = named_declaration sort.ClassName (container_of container.OwnName q.node) []
 
+        own_class : Node → Declaration
+        own_class = declaration_at q.node (class_row q (own ∷ [])) false
+
+        among : Among (container_of container.OwnName q.node) (containers_by q.node.kind s q.node q.path cs q.node)
+        among =
+            subst (λ j. Among (container_of container.OwnName q.node) (containers_by j s q.node q.path cs q.node)) (sym e)
+            (subst (λ b. Among (container_of container.OwnName q.node) (cond b [] (container_of container.TypeParameters q.node ∷ container_of container.OwnName q.node ∷ []))) (sym (ap (λ j. same_kind kind.Decorator j || false) e)) (inr (inl refl)))
+
+        home : (id : Node) → IsAtHome (own_class id) (own_name id)
+        home id = own_home (own_class id) (own_name id) refl refl among (ap opens e) (ap (λ j. same_kind j kind.CatchClause) e) refl (λ i. ap is_function e) refl
+
         go : (b : Bool) → AllPairs (cond b [] (map (declaration_at q.node (class_row q (own ∷ [])) false) (ids q.node)) ++ cond b (map (declaration_at q.node (class_row q q.chain) false) (ids q.node)) [])
             (map (cond b (declared_here sort.Class s q.node q.path) own_name) (ids q.node))
-        go true = map_pairs (declaration_at q.node (class_row q q.chain) false) (declared_here sort.Class s q.node q.path) (ids q.node) (λ id. sort_here (union symbol.Class.bits (marked_ambient q.node)) symbol.ClassExcludes.bits false sort.Class (class_are (has mark.Declare q.node)) id)
-        go false = map_pairs_last (declaration_at q.node (class_row q (own ∷ [])) false) own_name (ids q.node) (λ id. unsimple (declaration_at q.node (class_row q (own ∷ [])) false id) (own_name id) refl refl)
+        go true = map_pairs (declaration_at q.node (class_row q q.chain) false) (declared_here sort.Class s q.node q.path) (ids q.node) (λ id. sort_here (union symbol.Class.bits (marked_ambient q.node)) symbol.ClassExcludes.bits false sort.Class (no_namespace (is_unheaded q.node.kind)) (class_are (has mark.Declare q.node)) id)
+        go false = map_pairs_last (declaration_at q.node (class_row q (own ∷ [])) false) own_name (ids q.node) (λ id. record { told = refl; simple = λ i. record { how = stays refl; flags = class_name_are (has mark.Declare q.node); home = home id; also = nothing_else } })
 
-    mapped_pairs : Paired kind.TSMappedType
-    mapped_pairs =
-        let w : Node → Declaration = declaration_at q.node (type_parameter_row (here (own ∷ []))) false in
-        map_pairs_last w (named_declaration sort.MappedKey (container_of container.TypeParameters q.node) []) (names_at role.Key q.node) (λ id. unsimple (w id) (named_declaration sort.MappedKey (container_of container.TypeParameters q.node) [] id) refl refl)
+    mapped_pairs : q.node.kind ≡ kind.TSMappedType → Paired kind.TSMappedType
+    mapped_pairs e = map_pairs_last w key (names_at role.Key q.node) (λ id. record { told = refl; simple = λ i. record { how = stays refl; flags = key_are; home = home id; also = nothing_else } })
+      where
+        w : Node → Declaration
+        w = declaration_at q.node (type_parameter_row (here (own ∷ []))) false
 
-    import_pairs : Paired kind.ImportSpecifier
-    import_pairs = go (has mark.TypeOnly q.node || place.parent_holds (has mark.TypeOnly) q.path)
+        key : Node → NamedDeclaration
+        key = named_declaration sort.MappedKey (container_of container.TypeParameters q.node) []
+
+        home : (id : Node) → IsAtHome (w id) (key id)
+        home id = own_home (w id) (key id) refl refl (subst (λ j. Among (container_of container.TypeParameters q.node) (containers_by j s q.node q.path cs q.node)) (sym e) (inl refl)) (ap opens e) (ap (λ j. same_kind j kind.CatchClause) e) refl (λ i. ap is_function e) refl
+
+    import_pairs : is_unheaded q.node.kind ≡ true → Paired kind.ImportSpecifier
+    import_pairs u = go (has mark.TypeOnly q.node || place.parent_holds (has mark.TypeOnly) q.path)
       where
         row_by : Bool → BinderRow
         row_by b = record { flags = cond b symbol.TypeImport.bits symbol.Import.bits; excluded = symbol.ImportBindingExcludes.bits; how = plain; route = here q.chain }
 
         go : (b : Bool) → AllPairs (map (declaration_at q.node (row_by b) false) (names_at role.Local q.node)) (map (imported_as (cond b sort.TypeImport sort.Import) s q.node q.path) (names_at role.Local q.node))
-        go true = map_pairs (declaration_at q.node (row_by true) false) (imported_as sort.TypeImport s q.node q.path) (names_at role.Local q.node) (λ id. unsimple (declaration_at q.node (row_by true) false id) (imported_as sort.TypeImport s q.node q.path id) refl refl)
-        go false = map_pairs (declaration_at q.node (row_by false) false) (imported_as sort.Import s q.node q.path) (names_at role.Local q.node) (import_here symbol.Import.bits symbol.ImportBindingExcludes.bits sort.Import import_are)
+        go true = map_pairs (declaration_at q.node (row_by true) false) (imported_as sort.TypeImport s q.node q.path) (names_at role.Local q.node) (import_here symbol.TypeImport.bits symbol.ImportBindingExcludes.bits sort.TypeImport (λ i. u) type_import_are)
+        go false = map_pairs (declaration_at q.node (row_by false) false) (imported_as sort.Import s q.node q.path) (names_at role.Local q.node) (import_here symbol.Import.bits symbol.ImportBindingExcludes.bits sort.Import (λ i. u) import_are)
 
     -- all names of a row that is plain and here
-    here_pairs : (flags excluded : ℕ) (j : DeclarationSort) (names : List Node) → FlagsAre j flags → AllPairs (map (declaration_at q.node (record { flags = flags; excluded = excluded; how = plain; route = here q.chain }) false) names) (map (declared_here j s q.node q.path) names)
-    here_pairs flags excluded j names f = map_pairs (declaration_at q.node (record { flags = flags; excluded = excluded; how = plain; route = here q.chain }) false) (declared_here j s q.node q.path) names (sort_here flags excluded false j f)
+    here_pairs : (flags excluded : ℕ) (j : DeclarationSort) (names : List Node) → IsUnheaded j → FlagsAre j flags → AllPairs (map (declaration_at q.node (record { flags = flags; excluded = excluded; how = plain; route = here q.chain }) false) names) (map (declared_here j s q.node q.path) names)
+    here_pairs flags excluded j names u f = map_pairs (declaration_at q.node (record { flags = flags; excluded = excluded; how = plain; route = here q.chain }) false) (declared_here j s q.node q.path) names (sort_here flags excluded false j u f)
 
-    enum_pairs : Paired kind.TSEnumDeclaration
-    enum_pairs = go (has mark.Const q.node)
+    enum_pairs : is_unheaded q.node.kind ≡ true → Paired kind.TSEnumDeclaration
+    enum_pairs u = go (has mark.Const q.node)
       where
         go : (b : Bool) → AllPairs (if b then map (declaration_at q.node (record { flags = union symbol.ConstEnum.bits (marked_ambient q.node); excluded = symbol.ConstEnumExcludes.bits; how = plain; route = here q.chain }) false) (ids q.node)
             else map (declaration_at q.node (record { flags = union symbol.RegularEnum.bits (marked_ambient q.node); excluded = symbol.RegularEnumExcludes.bits; how = plain; route = here q.chain }) false) (ids q.node))
             (map (declared_here sort.Enum s q.node q.path) (ids q.node))
-        go true = here_pairs (union symbol.ConstEnum.bits (marked_ambient q.node)) symbol.ConstEnumExcludes.bits sort.Enum (ids q.node) (const_enum_are (has mark.Declare q.node))
-        go false = here_pairs (union symbol.RegularEnum.bits (marked_ambient q.node)) symbol.RegularEnumExcludes.bits sort.Enum (ids q.node) (enum_are (has mark.Declare q.node))
+        go true = here_pairs (union symbol.ConstEnum.bits (marked_ambient q.node)) symbol.ConstEnumExcludes.bits sort.Enum (ids q.node) (λ i. u) (const_enum_are (has mark.Declare q.node))
+        go false = here_pairs (union symbol.RegularEnum.bits (marked_ambient q.node)) symbol.RegularEnumExcludes.bits sort.Enum (ids q.node) (λ i. u) (enum_are (has mark.Declare q.node))
 
-    namespace_pairs : (i : InstanceState) → AllPairs (namespace_row i q) (map (declared_here (namespace_sort i) s q.node q.path) (ids q.node))
-    namespace_pairs non_instantiated = here_pairs (union symbol.NamespaceModule.bits (marked_ambient q.node)) symbol.NamespaceModuleExcludes.bits sort.TypeNamespace (ids q.node) (type_namespace_are (has mark.Declare q.node))
-    namespace_pairs const_enum_only = here_pairs (union symbol.ValueModule.bits (marked_ambient q.node)) symbol.ValueModuleExcludes.bits sort.ValueNamespace (ids q.node) (namespace_are (has mark.Declare q.node))
-    namespace_pairs instantiated = here_pairs (union symbol.ValueModule.bits (marked_ambient q.node)) symbol.ValueModuleExcludes.bits sort.ValueNamespace (ids q.node) (namespace_are (has mark.Declare q.node))
+    namespace_pairs : is_unheaded q.node.kind ≡ true → (i : InstanceState) → AllPairs (namespace_row i q) (map (declared_here (namespace_sort i) s q.node q.path) (ids q.node))
+    namespace_pairs u non_instantiated = here_pairs (union symbol.NamespaceModule.bits (marked_ambient q.node)) symbol.NamespaceModuleExcludes.bits sort.TypeNamespace (ids q.node) (λ i. u) (type_namespace_are (has mark.Declare q.node))
+    namespace_pairs u const_enum_only = here_pairs (union symbol.ValueModule.bits (marked_ambient q.node)) symbol.ValueModuleExcludes.bits sort.ValueNamespace (ids q.node) (λ i. u) (namespace_are (has mark.Declare q.node))
+    namespace_pairs u instantiated = here_pairs (union symbol.ValueModule.bits (marked_ambient q.node)) symbol.ValueModuleExcludes.bits sort.ValueNamespace (ids q.node) (λ i. u) (namespace_are (has mark.Declare q.node))
 
     member_pairs : Paired kind.TSEnumMember
     member_pairs =
         map_pairs (declaration_at q.node (record { flags = symbol.EnumMember.bits; excluded = symbol.EnumMemberExcludes.bits; how = plain; route = here q.chain }) false) (named_declaration sort.EnumMember (bound_container false cs) []) (flat_map (member_named q.node) (children_of role.Id q.node.children))
-        (pair_here symbol.EnumMember.bits symbol.EnumMemberExcludes.bits false sort.EnumMember false [] member_are nothing_else)
+        (pair_here symbol.EnumMember.bits symbol.EnumMemberExcludes.bits false sort.EnumMember false [] (no_namespace (is_unheaded q.node.kind)) member_are nothing_else)
 
     type_parameter_pairs : Paired kind.TSTypeParameter
     type_parameter_pairs = go (place.parent_holds (is kind.TSInferType) q.path)
@@ -477,7 +526,7 @@ module _ (p : Tree) where
 
         go : (b : Bool) → AllPairs (map (declaration_at q.node (row_by b) false) (names_at role.Name q.node)) (map (cond b inferred parameter) (names_at role.Name q.node))
         go true = map_pairs (declaration_at q.node (row_by true) false) inferred (names_at role.Name q.node) (λ id. unsimple (declaration_at q.node (row_by true) false id) (inferred id) refl refl)
-        go false = map_pairs (declaration_at q.node (row_by false) false) parameter (names_at role.Name q.node) (pair_here symbol.TypeParameter.bits symbol.TypeParameterExcludes.bits false sort.TypeParameter false [] parameter_are nothing_else)
+        go false = map_pairs (declaration_at q.node (row_by false) false) parameter (names_at role.Name q.node) (pair_here symbol.TypeParameter.bits symbol.TypeParameterExcludes.bits false sort.TypeParameter false [] (no_namespace (is_unheaded q.node.kind)) parameter_are nothing_else)
 
     no_rest_pairs : (b : Bool) (ws : List Declaration) → b ≡ false → AllPairs (cond b ws []) []
     no_rest_pairs true ws e = absurd (never e)
@@ -489,22 +538,22 @@ module _ (p : Tree) where
     pub pairs_by : (j : AstType) → q.node.kind ≡ j → same_kind j kind.TSIndexSignatureName ≡ false → is_bare_rest q.node q.path ≡ false → (q.path ≡ [] → q.node.kind ≡ kind.Program) → Paired j
     pairs_by kind.VariableDeclarator e i r u = variable_pairs q.path e refl
     pairs_by kind.Function e i r u = function_pairs
-    pairs_by kind.Class e i r u = class_pairs
+    pairs_by kind.Class e i r u = class_pairs e
     pairs_by kind.FormalParameter e i r u = parameter_pairs q.path (not_root kind.FormalParameter e (λ z. absurd cc) u)
     pairs_by kind.FormalParameterRest e i r u = parameter_pairs q.path (not_root kind.FormalParameterRest e (λ z. absurd cc) u)
     pairs_by kind.BindingRestElement e i r u = no_rest_pairs (place.parent_holds (is kind.FormalParameters) q.path) _ (rw e at r)
     pairs_by kind.CatchParameter e i r u = catch_pairs (children_of role.Pattern q.node.children)
-    pairs_by kind.ImportSpecifier e i r u = import_pairs
-    pairs_by kind.ImportDefaultSpecifier e i r u = import_pairs
-    pairs_by kind.ImportNamespaceSpecifier e i r u = import_pairs
+    pairs_by kind.ImportSpecifier e i r u = import_pairs (ap is_unheaded e)
+    pairs_by kind.ImportDefaultSpecifier e i r u = import_pairs (ap is_unheaded e)
+    pairs_by kind.ImportNamespaceSpecifier e i r u = import_pairs (ap is_unheaded e)
     pairs_by kind.TSImportEqualsDeclaration e i r u =
-        map_pairs (declaration_at q.node (record { flags = symbol.Import.bits; excluded = symbol.ImportBindingExcludes.bits; how = plain; route = here q.chain }) false) (imported_as sort.Import s q.node q.path) (ids q.node) (import_here symbol.Import.bits symbol.ImportBindingExcludes.bits sort.Import import_are)
-    pairs_by kind.TSTypeAliasDeclaration e i r u = here_pairs (union symbol.TypeAlias.bits (marked_ambient q.node)) symbol.TypeAliasExcludes.bits sort.TypeAlias (ids q.node) (alias_are (has mark.Declare q.node))
-    pairs_by kind.TSInterfaceDeclaration e i r u = here_pairs (union symbol.Interface.bits (marked_ambient q.node)) symbol.InterfaceExcludes.bits sort.Interface (ids q.node) (interface_are (has mark.Declare q.node))
-    pairs_by kind.TSEnumDeclaration e i r u = enum_pairs
+        map_pairs (declaration_at q.node (record { flags = symbol.Import.bits; excluded = symbol.ImportBindingExcludes.bits; how = plain; route = here q.chain }) false) (imported_as sort.Import s q.node q.path) (ids q.node) (import_here symbol.Import.bits symbol.ImportBindingExcludes.bits sort.Import (λ j. ap is_unheaded e) import_are)
+    pairs_by kind.TSTypeAliasDeclaration e i r u = here_pairs (union symbol.TypeAlias.bits (marked_ambient q.node)) symbol.TypeAliasExcludes.bits sort.TypeAlias (ids q.node) (no_namespace (is_unheaded q.node.kind)) (alias_are (has mark.Declare q.node))
+    pairs_by kind.TSInterfaceDeclaration e i r u = here_pairs (union symbol.Interface.bits (marked_ambient q.node)) symbol.InterfaceExcludes.bits sort.Interface (ids q.node) (no_namespace (is_unheaded q.node.kind)) (interface_are (has mark.Declare q.node))
+    pairs_by kind.TSEnumDeclaration e i r u = enum_pairs (ap is_unheaded e)
     pairs_by kind.TSEnumMember e i r u = member_pairs
-    pairs_by kind.TSNamespaceDeclaration e i r u = namespace_pairs (instance_state q.node q.path (nodes_around q.node q.path))
+    pairs_by kind.TSNamespaceDeclaration e i r u = namespace_pairs (ap is_unheaded e) (instance_state q.node q.path (nodes_around q.node q.path))
     pairs_by kind.TSTypeParameter e i r u = type_parameter_pairs
-    pairs_by kind.TSMappedType e i r u = mapped_pairs
+    pairs_by kind.TSMappedType e i r u = mapped_pairs e
     pairs_by kind.TSIndexSignatureName e i r u = absurd cc
     pairs_by _ e i r u = tt

@@ -34,7 +34,6 @@ use Rattle.typescript_ties.specs.declared.container_kind.ContainerKind.TheVarian
 use Rattle.typescript_ties.specs.declared.declaration_sort.DeclarationSort.TheVariants as sort
 use Rattle.typescript_ties.proofs.ChildPlaces.{same_truth, is_function, tells_inside, told_by_kind, tells_header}
 use Rattle.typescript_ties.proofs.EnteredOnce.{entered_once}
-use Rattle.typescript_ties.proofs.Heads.{is_of_header}
 use Rattle.typescript_ties.proofs.Groups.{GroupMember, member_of}
 use Rattle.typescript_ties.proofs.HeadPlaces.{IsHeaded, HasOrigin, IsCommonPlace, round_place}
 use Rattle.typescript_ties.proofs.Pairs.{container_kind_is}
@@ -171,14 +170,6 @@ module _ (p : Tree) (h : first_fault p ≡ None) (common : is_common p ≡ true)
         not_headed false f i j = refl
         not_headed true f i j = absurd (never (sym (f refl) ∙ (λ t. i t || j t)))
 
-    -- in a header the container is one of parameters or type parameters
-    pub in_header_only : s.in_header ≡ true → (d : Container) → Among d group → is_apart d.kind ≡ false → is_of_header d ≡ true
-    in_header_only i d b free = (member node d b).header free (λ f. or_true_of (is_in_header q.node.kind r) (is_of_signature node) (header_is f) (sym header ∙ i)) (header_kinds q.node.kind r (sym header ∙ i))
-      where
-        or_true_of : (u v : Bool) → same_truth u v ≡ true → u ≡ true → v ≡ true
-        or_true_of true v i j = i
-        or_true_of false v i j = absurd (never (sym j))
-
     -- a declaration that a container of the child has is seen
     pub record SeenToo (n : NamedDeclaration) : Type 0 where
       pub made : Made
@@ -203,7 +194,7 @@ module _ (p : Tree) (h : first_fault p ≡ None) (common : is_common p ≡ true)
           among = made;
           both = both;
           seen = by s.in_header refl w number (ap (λ t. t.name) both.told ∙ named)
-              (λ i. into_header w both.pair.home.opener at_node (both.pair.home.in_header (subst (λ z. (same_container_kind z container.TypeParameters || same_container_kind z container.Parameters) ≡ true) (sym same_kinds) (m.header (subst (λ z. is_apart z ≡ false) same_kinds free) (λ f. same_or_true (is_in_header q.node.kind r) (is_of_signature node) (header_is f) (sym header ∙ i)) (header_kinds q.node.kind r (sym header ∙ i))))) (header_kinds q.node.kind r (sym header ∙ i)) d b (subst (λ z. is_apart z ≡ false) same_kinds free)) y;
+              (λ i. into_header w both.pair.home.opener at_node (both.pair.home.in_header (subst (λ z. (same_container_kind z container.TypeParameters || (same_container_kind z container.Parameters || same_container_kind z container.OwnName)) ≡ true) (sym same_kinds) (m.header (subst (λ z. is_apart z ≡ false) same_kinds free) (λ f. same_or_true (is_in_header q.node.kind r) (is_of_signature node) (header_is f) (sym header ∙ i)) (header_kinds q.node.kind r (sym header ∙ i))))) (header_kinds q.node.kind r (sym header ∙ i)) d b (subst (λ z. is_apart z ≡ false) same_kinds free)) y;
         }
       where
         left_or : (u v : Bool) → (u || v) ≡ true → v ≡ false → u ≡ true

@@ -10,6 +10,7 @@ use Rattle.semantic_tree.specs.Tree.{Tree, IsNumbered}
 use Rattle.semantic_tree.specs.declared.node.Node.{Node}
 use Rattle.semantic_model.specs.Cursor.{on_entering}
 use Rattle.semantic_model.specs.EachStep.{EachStep}
+use Rattle.semantic_model.specs.Entries.{Among}
 use Rattle.semantic_model.specs.Inside.{is_inside, is_in_header, is_parameter_decorator}
 use Rattle.semantic_model.specs.Place.{Place, OpenScope, innermost, outside}
 use Rattle.semantic_model.specs.ScopeKind.{opened_scope}
@@ -32,6 +33,11 @@ module _ (table : List ℕ) where
   abbrev pub AllOpened : List OpenScope → Type 0
   AllOpened [] = Unit {0}
   AllOpened (s ∷ ss) = IsOpened s × AllOpened ss
+
+  pub among_opened : (chain : List OpenScope) (z : OpenScope) → AllOpened chain → Among z chain → IsOpened z
+  among_opened [] z o a = absurd a
+  among_opened (s ∷ ss) z o (inl e) = subst IsOpened e o.0
+  among_opened (s ∷ ss) z o (inr a) = among_opened ss z o.1 a
 
   abbrev IsOpenedAs : ℕ → Place → OpenScope → Type 0
   IsOpenedAs n p s = slice_get table n ≡ Some s.opener
@@ -91,7 +97,7 @@ module _ (table : List ℕ) where
 
 -- ---- the program
 
-opened_at : (table : List ℕ) (n : ℕ) (ss : List Step) → ((i : ℕ) → slice_get table (n + i) ≡ slice_get (openers ss) i) → OpenedFrom (λ m p s. slice_get table m ≡ Some s.opener) n ss
+pub opened_at : (table : List ℕ) (n : ℕ) (ss : List Step) → ((i : ℕ) → slice_get table (n + i) ≡ slice_get (openers ss) i) → OpenedFrom (λ m p s. slice_get table m ≡ Some s.opener) n ss
 opened_at table n [] h = tt
 opened_at table n (opening p s ∷ more) h =
     (subst (λ m. slice_get table m ≡ Some s.opener) (omega arith) (h 0), opened_at table (suc n) more (λ i. subst (λ m. slice_get table m ≡ slice_get (openers more) i) (omega arith) (h (suc i))))

@@ -1,9 +1,7 @@
 -- What is tried of a name holds of it.
-use Rattle.std.proofs.Common.{◌≡◌, ◌==◌, List, [], ◌∷◌, Bool, true, false, ◌&&◌, ◌||◌, not, sym, ap, subst, ◌∙◌, inl, inr, bytes_eq}
+use Rattle.std.proofs.Common.{◌≡◌, List, [], ◌∷◌, Bool, true, false, ◌&&◌, ◌||◌, not, sym, subst, inl, inr, bytes_eq, ap, ◌==◌, ◌∙◌}
 use Rattle.std.specs.List.{list_all}
 use Rattle.std.proofs.lemmas.Bool.{and_from, eq-eqb, not-true}
-use Rattle.std.proofs.lemmas.Bool.Decides.{eqb_tells}
-use denote.Enum.Bare.{same_true}
 use Rattle.semantic_syntax.proofs.Truth.{and_first, and_second}
 use Rattle.semantic_kinds.specs.declared.kind.AstType.TheVariants as kind
 use Rattle.semantic_syntax.specs.Tables.{Name}
@@ -15,16 +13,12 @@ use Rattle.semantic_model.specs.Place.{Place}
 use Rattle.semantic_model.specs.Step.{entering, steps}
 use Rattle.semantic_model.proofs.once.ListedUnder.{name_tells}
 use Rattle.typescript_ties.specs.AskedMeanings.{asked_by_reference}
-use Rattle.typescript_ties.specs.Containers.{Container, same_container_kind, is_container, same_container, containers}
-use Rattle.typescript_ties.specs.NamedDeclarations.{NamedDeclaration, same_sort, is_sort, named_by_node, named_in}
+use Rattle.typescript_ties.specs.Containers.{Container, containers}
+use Rattle.typescript_ties.specs.NamedDeclarations.{same_sort, is_sort, named_by_node, named_in}
 use Rattle.typescript_ties.specs.SimpleNames.{is_simple, before_first_taking, VarsKeepClear, is_way_of, is_past_parameter, IsSimpleName}
-use Rattle.typescript_ties.specs.TriedNames.{containers_at, all_containers, is_declared_simply, asks_its_way, asks_past_none, asks_at, declares_var, stands_apart, keeps_clear_at, is_simple_name}
-use Rattle.typescript_ties.specs.contracts.declaration_sort.DeclarationSort.{the_type as the_sorts}
-use Rattle.typescript_ties.specs.declared.container_kind.ContainerKind.TheVariants as container
+use Rattle.typescript_ties.specs.TriedNames.{asks_its_way, asks_past_none, asks_at, declares_var, stands_apart, keeps_clear_at, is_simple_name}
 use Rattle.typescript_ties.specs.declared.declaration_sort.DeclarationSort.TheVariants as sort
 use Rattle.typescript_ties.proofs.AgreedPlaces.{any_there}
-use Rattle.typescript_ties.proofs.ScopeMembers.{kind_self}
-use Rattle.typescript_ties.proofs.SimpleDeclarations.{flat_among}
 
 never : true ≡ false → ⊥
 never h = absurd cc
@@ -39,11 +33,8 @@ implied true b h e = h
 implied false b h e = absurd (never (sym e))
 
 module _ (p : Tree) (x : Name) (tried : is_simple_name p x ≡ true) where
-  abbrev cs : List Container
-  cs = all_containers p
-
   abbrev all_declared : Bool
-  all_declared = list_all (λ z. not (bytes_eq z.name x) || is_declared_simply cs z) (named_in p)
+  all_declared = list_all (λ z. not (bytes_eq z.name x) || is_simple z) (named_in p)
 
   abbrev all_asked : Bool
   all_asked = list_all (asks_at (named_in p) x) (steps p)
@@ -61,12 +52,6 @@ module _ (p : Tree) (x : Name) (tried : is_simple_name p x ≡ true) where
   named_x : (y : Name) → y ≡ x → bytes_eq y x ≡ true
   named_x y e = elim (name_tells y x) [ inl i ↦ i.0 | inr i ↦ absurd (i.1 e) ]
 
-  declared : (d : NamedDeclaration) → Among d (named_in p) → d.name ≡ x → is_declared_simply cs d ≡ true
-  declared d a e =
-      implied (bytes_eq d.name x) (is_declared_simply cs d)
-      (all_among (λ z. not (bytes_eq z.name x) || is_declared_simply cs z) (named_in p) d (and_first all_declared all_asked both) a)
-      (elim (name_tells d.name x) [ inl i ↦ i.0 | inr i ↦ absurd (i.1 e) ])
-
   keeps_clear : VarsKeepClear p x
   keeps_clear q entered v n a is_var is_v among is_n c there same =
       let at : keeps_clear_at p.source_type (named_in p) x (entering q) ≡ true = all_among (keeps_clear_at p.source_type (named_in p) x) (steps p) (entering q) (and_second (all_declared && all_asked) all_clear tried) entered in
@@ -76,21 +61,9 @@ module _ (p : Tree) (x : Name) (tried : is_simple_name p x ≡ true) where
       let apart : stands_apart passed n ≡ true = implied (bytes_eq n.name x) (stands_apart passed n) (all_among (λ m. not (bytes_eq m.name x) || stands_apart passed m) (named_in p) n each among) (named_x n.name is_n) in
       never (sym (all_among (λ d. not (n.container.node == d.node)) passed c apart there) ∙ ap not (eq-eqb n.container.node c.node same))
 
-  abbrev typed : NamedDeclaration → Bool
-  typed d = not (is_container container.TypeParameters d.container) || is_sort sort.TypeParameter d
-
-  abbrev alone : NamedDeclaration → Bool
-  alone d = not (is_container container.EnumMembers d.container) || list_all (λ c. not (same_container d.container c) || d.container.node == c.node) cs
-
   pub simple_name : IsSimpleName p x
   simple_name = record {
-    simply = record { each = λ d a e. and_first (is_simple d) (typed d) (and_first (is_simple d && typed d) (alone d) (declared d a e)); clear = keeps_clear };
-    enums = λ d a e i q entered c there same. (
-        let all : list_all (λ z. not (same_container d.container z) || d.container.node == z.node) cs ≡ true =
-        implied (is_container container.EnumMembers d.container) (list_all (λ z. not (same_container d.container z) || d.container.node == z.node) cs) (and_second (is_simple d && typed d) (alone d) (declared d a e)) (ap (λ k. same_container_kind k container.EnumMembers) i ∙ kind_self container.EnumMembers) in
-        let one : (d.container.node == c.node) ≡ true = implied (same_container d.container c) (d.container.node == c.node) (all_among (λ z. not (same_container d.container z) || d.container.node == z.node) cs c all (flat_among (containers_at p.source_type) (steps p) (entering q) c entered there)) same in
-        elim (eqb_tells d.container.node c.node) [ inl j ↦ j.1 | inr j ↦ absurd (never (sym one ∙ j.0)) ]);
-    types = λ d a e i. same_true the_sorts tt d.sort sort.TypeParameter (implied (is_container container.TypeParameters d.container) (is_sort sort.TypeParameter d) (and_second (is_simple d) (typed d) (and_first (is_simple d && typed d) (alone d) (declared d a e))) i);
+    simply = record { each = λ d a e. implied (bytes_eq d.name x) (is_simple d) (all_among (λ z. not (bytes_eq z.name x) || is_simple z) (named_in p) d (and_first all_declared all_asked both) a) (named_x d.name e); clear = keeps_clear };
     ways = λ q entered refers is_x. implied (is kind.IdentifierReference q.node && bytes_eq q.node.text x) (is_way_of (asked_by_reference q.path) (way_or_read q.cursor))
         (and_first (asks_its_way x q) (asks_past_none (named_in p) x q) (asked q entered)) (and_from (is kind.IdentifierReference q.node) (bytes_eq q.node.text x) refers (named_x q.node.text is_x));
     parameters = λ q entered refers is_x past. not-true (asked_by_reference q.path).value

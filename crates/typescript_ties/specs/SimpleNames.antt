@@ -36,31 +36,33 @@ is_common_forest (tree r k span text marks below id after) = is_common_child k &
 abbrev pub is_common : Tree → Bool
 is_common p = is_common_forest p.root.children
 
--- by `var`, lexical, a parameter, a type or class, an enum or its member, a namespace, an import, a type parameter, or a function that stays where it stands
+-- by `var`, lexical, a parameter, a type, a class or its own name, an enum or its member, a namespace, an import, a type parameter, the key of a mapped type, or a function that stays where it stands
 abbrev pub is_simple_sort : DeclarationSort → Bool
 is_simple_sort sort.Var = true
 is_simple_sort sort.Lexical = true
 is_simple_sort sort.Function = true
 is_simple_sort sort.Parameter = true
 is_simple_sort sort.Class = true
+is_simple_sort sort.ClassName = true
 is_simple_sort sort.Import = true
+is_simple_sort sort.TypeImport = true
 is_simple_sort sort.TypeAlias = true
 is_simple_sort sort.Interface = true
 is_simple_sort sort.Enum = true
 is_simple_sort sort.EnumMember = true
 is_simple_sort sort.TypeParameter = true
+is_simple_sort sort.MappedKey = true
 is_simple_sort sort.TypeNamespace = true
 is_simple_sort sort.ValueNamespace = true
 is_simple_sort _ = false
 
--- what has no names but by `infer`, index signatures, catch clauses and the own names of expressions, and what is global beside the file
+-- what has no names but by `infer`, index signatures and catch clauses, and what is global beside the file
 abbrev pub is_apart : ContainerKind → Bool
 is_apart container.Globals = true
 is_apart container.Inferred = true
 is_apart container.Condition = true
 is_apart container.Infer = true
 is_apart container.IndexSignature = true
-is_apart container.OwnName = true
 is_apart container.CatchClause = true
 is_apart _ = false
 
@@ -87,7 +89,7 @@ pub record IsSimplyDeclared (p : Tree) (x : Name) : Type 0 where
   pub each : (d : NamedDeclaration) → Among d (named_in p) → d.name ≡ x → is_simple d ≡ true
   pub clear : VarsKeepClear p x
 
--- where it is a member, no other block shares the members; of a name that is not tangled this follows, but for enums
+-- where it is a member, no other block shares the members; of a name that is not tangled this follows
 abbrev pub HasOwnMembers : Tree → Name → Type 0
 HasOwnMembers p x =
     (d : NamedDeclaration) → Among d (named_in p) → d.name ≡ x → (q : Place) → Among (entering q) (steps p) → (c : Container) → Among c (containers p.source_type q.node q.path)
@@ -124,20 +126,8 @@ abbrev pub AsksPastNoParameter : Tree → Name → Type 0
 AsksPastNoParameter p x =
     (q : Place) → Among (entering q) (steps p) → is kind.IdentifierReference q.node ≡ true → q.node.text ≡ x → is_past_parameter (named_in p) x q.node q.path ≡ true → (asked_by_reference q.path).value ≡ false
 
--- and so it is of enums
-abbrev pub HasOwnEnums : Tree → Name → Type 0
-HasOwnEnums p x =
-    (d : NamedDeclaration) → Among d (named_in p) → d.name ≡ x → d.container.kind ≡ container.EnumMembers → (q : Place) → Among (entering q) (steps p) → (c : Container) → Among c (containers p.source_type q.node q.path)
-    → same_container d.container c ≡ true → d.container.node ≡ c.node
-
--- where type parameters are declared, the name is one
-abbrev pub StandsWithTypes : Tree → Name → Type 0
-StandsWithTypes p x = (d : NamedDeclaration) → Among d (named_in p) → d.name ≡ x → is_container container.TypeParameters d.container ≡ true → d.sort ≡ sort.TypeParameter
-
 -- all of that
 pub record IsSimpleName (p : Tree) (x : Name) : Type 0 where
   pub simply : IsSimplyDeclared p x
-  pub enums : HasOwnEnums p x
-  pub types : StandsWithTypes p x
   pub ways : AsksItsWays p x
   pub parameters : AsksPastNoParameter p x
