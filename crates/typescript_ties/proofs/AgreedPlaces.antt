@@ -1,12 +1,10 @@
 -- Place by place, what the scopes answer is what the name means in the containers.
-use Rattle.std.proofs.Common.{◌≡◌, ℕ, ◌==◌, List, [], ◌∷◌, ◌++◌, Option, Some, None, Bool, true, false, ◌&&◌, ◌||◌, not, cond, refl, sym, ap, subst, ◌∙◌, inl, inr, ◌⊎◌, bytes_eq, codes, map, filter}
+use Rattle.std.proofs.Common.{◌≡◌, ℕ, ◌==◌, List, [], ◌∷◌, ◌++◌, Option, Some, None, Bool, true, false, ◌&&◌, ◌||◌, cond, refl, sym, ap, subst, ◌∙◌, inl, inr, ◌⊎◌, bytes_eq, codes, map, filter}
 use Rattle.std.specs.List.{list_any}
 use Rattle.std.specs.Prelude.{slice_get}
-use Rattle.std.proofs.lemmas.Bool.{cases_Bool, and_from, eq-eqb, not-true}
+use Rattle.std.proofs.lemmas.Bool.{cases_Bool, and_from, eq-eqb}
 use Rattle.std.proofs.lemmas.Bool.Decides.{eqb_tells}
 use Rattle.semantic_syntax.proofs.Truth.{and_first, and_second}
-use Rattle.semantic_kinds.specs.Classes.{holds_kind}
-use Rattle.semantic_kinds.specs.Kinds.{same_kind}
 use Rattle.semantic_kinds.specs.declared.kind.AstType.TheVariants as kind
 use Rattle.semantic_kinds.specs.declared.role.Role.{Role}
 use Rattle.semantic_syntax.specs.Lookup.{Seen, Asked, is_arguments, lookup}
@@ -25,8 +23,8 @@ use Rattle.semantic_model.specs.Cursor.{on_entering}
 use Rattle.semantic_model.specs.EachStep.{EachStep}
 use Rattle.semantic_model.specs.Entries.{Among}
 use Rattle.semantic_model.specs.Fold.{Made}
-use Rattle.semantic_model.specs.Inside.{is_inside, is_in_header, is_parameter_decorator}
-use Rattle.semantic_model.specs.Place.{Place, OpenScope}
+use Rattle.semantic_model.specs.Inside.{is_inside, is_in_header}
+use Rattle.semantic_model.specs.Place.{Place, OpenScope, outside}
 use Rattle.semantic_model.specs.Step.{Step, entering, opening, header_ending, closing, leaving, steps, steps_below, root_place, child_place}
 use Rattle.semantic_model.specs.Tie.{symbol_by}
 use Rattle.semantic_model.proofs.form.ParameterChains.{is_open_inside}
@@ -45,9 +43,9 @@ use Rattle.typescript_ties.specs.MeaningSets.{MeaningSet, shares_meaning, sort_m
 use Rattle.typescript_ties.specs.NamedDeclarations.{NamedDeclaration, same_sort, is_sort, named_in}
 use Rattle.typescript_ties.specs.Resolved.{Resolved, nowhere, declared_in, has_declared, declarations_in, has_meaning, resolve}
 use Rattle.typescript_ties.specs.SeenTogether.{is_in_scope, is_seen_from, bound_together, asked_together}
-use Rattle.typescript_ties.specs.SimpleNames.{is_common_child, is_common_forest, is_common, is_apart, IsSimplyDeclared, HasOwnMembers, is_way_of, is_parameter_named, is_past_parameter}
+use Rattle.typescript_ties.specs.SimpleNames.{is_common, is_apart, IsSimplyDeclared, HasOwnMembers, is_way_of, is_parameter_named, is_past_parameter}
 use Rattle.typescript_ties.specs.declared.declaration_sort.DeclarationSort.TheVariants as sort
-use Rattle.typescript_ties.proofs.ChildChains.{ChainOf, outer_chain, inner_chain, OwnOf, own_of, chain_of}
+use Rattle.typescript_ties.proofs.ChildChains.{ChainOf, outer_chain, inner_chain, OwnOf, own_of}
 use Rattle.typescript_ties.proofs.ChildPlaces.{tells_inside, told_by_kind, tree_tells, tells_header, tree_headed}
 use Rattle.typescript_ties.proofs.EnteredOnce.{entered_once}
 use Rattle.typescript_ties.proofs.FitsTogether.{any_meets, AreBoundAs, bound_as_one, is_asked, WayAsks, way_asks}
@@ -56,6 +54,8 @@ use Rattle.typescript_ties.proofs.OutsideGroups.{IsAside, aside_of}
 use Rattle.typescript_ties.proofs.Pairs.{container_kind_is}
 use Rattle.typescript_ties.proofs.ScopeMembers.{IsHidden, SeenAs, seen_as, SeenToo, seen_too}
 use Rattle.typescript_ties.proofs.ScopeOpeners.{openers, IsOpened, AllOpened, IsPlaceOpened, places_opened, root_opener}
+use Rattle.typescript_ties.proofs.OutsidePlaces.{decorated, plain_round, plain_chain, decorator_has, child_out}
+use Rattle.typescript_ties.proofs.ParameterLists.{is_list_kind, tells_parameters, tree_parameters}
 use Rattle.typescript_ties.proofs.SimpleOnes.{is_not_apart}
 use Rattle.typescript_ties.proofs.SimpleDeclarations.{IsBoth, of_language, made_so, one_symbol}
 use Rattle.typescript_ties.proofs.UndeclaredFree.{OfEntered, IsEnteredIn, all_entered}
@@ -183,8 +183,19 @@ module _ (p : Tree) (h : first_fault p ≡ None) (common : is_common p ≡ true)
   abbrev pub looked_up : ℕ → List OpenScope → Option ℕ
   looked_up w chain = symbol_by (lookup x w (map (asked_together p x) chain))
 
+  -- of these scopes and containers, from behind a parameter or not
+  abbrev pub AgreesIn : Bool → List OpenScope → List Container → Type 0
+  AgreesIn past chain cs = (asked : MeaningSet) (w : ℕ) → is_way_of asked w ≡ true → (past ≡ true → asked.value ≡ false) → Matches w (looked_up w chain) (resolve ns cs asked x)
+
   abbrev pub AgreesRound : Place → Type 0
-  AgreesRound q = (asked : MeaningSet) (w : ℕ) → is_way_of asked w ≡ true → (is_past_parameter ns x q.node q.path ≡ true → asked.value ≡ false) → Matches w (looked_up w q.chain) (resolve ns (round_place p q) asked x)
+  AgreesRound q = AgreesIn (is_past_parameter ns x q.node q.path) q.chain (round_place p q)
+
+  -- outside of the function, from its list of parameters
+  abbrev pub AgreesOutside : Place → Type 0
+  AgreesOutside q = is_list_kind q.node.kind ≡ true → AgreesIn (is_past_parameter ns x q.node q.path) (outside q.chain) (outside_function (round_place p q))
+
+  from_behind : (a b : Bool) (chain : List OpenScope) (cs : List Container) → (a ≡ true → b ≡ true) → AgreesIn a chain cs → AgreesIn b chain cs
+  from_behind a b chain cs f h asked w is_way no_value = h asked w is_way (λ i. no_value (f i))
 
   -- ---- what isn't in the scope at all
 
@@ -486,7 +497,7 @@ module _ (p : Tree) (h : first_fault p ≡ None) (common : is_common p ≡ true)
   -- ---- all places
 
   abbrev pub AgreedStep : Step → Type 0
-  AgreedStep (entering q) = AgreesRound q
+  AgreedStep (entering q) = AgreesRound q × AgreesOutside q
   AgreedStep (opening q o) = Unit {0}
   AgreedStep (header_ending q o) = Unit {0}
   AgreedStep (closing q o) = Unit {0}
@@ -514,38 +525,63 @@ module _ (p : Tree) (h : first_fault p ≡ None) (common : is_common p ≡ true)
       (subst (λ l. Matches w (looked_up w (s ∷ q.chain)) (resolve ns l asked x)) (sym c_round)
       (within_scope q entered k agree r node text tells headed i s opener header opened.0 c c_entered c_round asked w is_way (λ i. no_value (past ∙ i))))
 
-  agreed_below : (q : Place) (own : Option OpenScope) (n cursor : ℕ) (f : Forest) → Among (entering q) (steps p) → IsCommonPlace p q → AgreesRound q → OwnOf q own → is_common_forest q.node.kind f ≡ true → holds_below tells_inside q.node.kind f ≡ true → holds_below tells_header q.node.kind f ≡ true
+  -- any child, be it a decorator
+  module _ (q : Place) (entered : Among (entering q) (steps p)) (k : IsCommonPlace p q) (agree : AgreesRound q) (out : AgreesOutside q) (r : Role) (node : Node) (text : List ℕ) (own : Option OpenScope) (cursor : ℕ)
+      (params : tells_parameters q.node.kind r node.kind text ≡ true) (reached : is_inside q.node.kind r ≡ true → own ≡ None → ⊥) (own_is : OwnOf q own)
+      (tells : tells_inside q.node.kind r node.kind text ≡ true) (headed : tells_header q.node.kind r node.kind text ≡ true)
+      (opened : AllOpened table (child_place q own cursor r node).chain) (c_entered : Among (entering (child_place q own cursor r node)) (steps p)) where
+    abbrev c : Place
+    c = child_place q own cursor r node
+
+    abbrev behind : Bool
+    behind = is_past_parameter ns x node (q.node ∷ q.path)
+
+    further : is_past_parameter ns x q.node q.path ≡ true → behind ≡ true
+    further i = past_outer (is kind.TSTypeParameterDeclaration node && list_any (is_parameter_named q.node x) ns) (is_past_parameter ns x q.node q.path) i
+
+    out_further : is_list_kind q.node.kind ≡ true → AgreesIn behind (outside q.chain) (outside_function (round_place p q))
+    out_further e = from_behind (is_past_parameter ns x q.node q.path) behind (outside q.chain) (outside_function (round_place p q)) further (out e)
+
+    any_agrees : AgreesRound c
+    any_agrees = elim (cases_Bool (decorated p.source_type q r node text own cursor params reached own_is)) [
+      | inl e ↦ decorator_has p.source_type q r node text own cursor params reached own_is (AgreesIn behind) out_further e
+      | inr e ↦ child_agrees q entered k agree r node text tells headed c.chain (plain_chain p.source_type q r node text own cursor params reached own_is e) opened c c_entered refl refl (plain_round p.source_type q r node text own cursor params reached own_is e)
+    ]
+
+    out_agrees : AgreesOutside c
+    out_agrees = child_out p.source_type q r node text own cursor params reached own_is (AgreesIn behind) out_further k.before (from_behind (is_past_parameter ns x q.node q.path) behind q.chain (round_place p q) further agree)
+
+    both_agree : AgreesRound c × AgreesOutside c
+    both_agree = (any_agrees, out_agrees)
+
+  agreed_below : (q : Place) (own : Option OpenScope) (n cursor : ℕ) (f : Forest) → Among (entering q) (steps p) → IsCommonPlace p q → AgreesRound q × AgreesOutside q → OwnOf q own
+      → holds_below tells_inside q.node.kind f ≡ true → holds_below tells_header q.node.kind f ≡ true → holds_below tells_parameters q.node.kind f ≡ true
       → EachStep Entered (steps_below q own n cursor f) → EachStep (CommonStep p) (steps_below q own n cursor f) → EachStep (IsPlaceOpened table) (steps_below q own n cursor f) → EachStep AgreedStep (steps_below q own n cursor f)
-  agreed_below q own n cursor nothing a k g o c t h es ks os = last_case (EachStep AgreedStep) q own n tt (tt, (tt, tt))
-  agreed_below q own n cursor (tree r k2 span text marks below id after) a k g o c t h es ks os =
+  agreed_below q own n cursor nothing a k g o t h i es ks os = last_case (EachStep AgreedStep) q own n tt (tt, (tt, tt))
+  agreed_below q own n cursor (tree r k2 span text marks below id after) a k g o t h i es ks os =
       let node : Node = record { kind = k2; span = span; text = text; marks = marks; children = below; node_id = id } in
       let turn : Turn = turn_at q own n cursor r node after in
       let entered : EachOfTurn Entered turn = turn_of_each Entered turn es in
       let commons : EachOfTurn (CommonStep p) turn = turn_of_each (CommonStep p) turn ks in
       let opens : EachOfTurn (IsPlaceOpened table) turn = turn_of_each (IsPlaceOpened table) turn os in
-      let here : is_common_child q.node.kind r k2 ≡ true = and_first (is_common_child q.node.kind r k2) (is_common_forest k2 below && is_common_forest q.node.kind after) c in
-      let forests : (is_common_forest k2 below && is_common_forest q.node.kind after) ≡ true = and_second (is_common_child q.node.kind r k2) (is_common_forest k2 below && is_common_forest q.node.kind after) c in
-      let decorated : Bool = holds_kind (kind.FormalParameter ∷ kind.FormalParameterRest ∷ []) q.node.kind && same_kind k2 kind.Decorator in
-      let undecorated : (not (is_parameter_decorator q.node.kind r) && not decorated) ≡ true = and_second (not (same_kind k2 kind.WithStatement)) (not (is_parameter_decorator q.node.kind r) && not decorated) here in
       let tells : (holds_below tells_inside k2 below && holds_below tells_inside q.node.kind after) ≡ true = and_second (tells_inside q.node.kind r k2 text) (holds_below tells_inside k2 below && holds_below tells_inside q.node.kind after) t in
       let headed : (holds_below tells_header k2 below && holds_below tells_header q.node.kind after) ≡ true = and_second (tells_header q.node.kind r k2 text) (holds_below tells_header k2 below && holds_below tells_header q.node.kind after) h in
+      let params : (holds_below tells_parameters k2 below && holds_below tells_parameters q.node.kind after) ≡ true = and_second (tells_parameters q.node.kind r k2 text) (holds_below tells_parameters k2 below && holds_below tells_parameters q.node.kind after) i in
       let own_is : OwnOf q turn.scope = own_of q r own n o in
-      let plain : decorated ≡ false = not-true decorated (and_second (not (is_parameter_decorator q.node.kind r)) (not decorated) undecorated) in
-      let child : AgreesRound turn.child = child_agrees q a k g r node text
+      let child : AgreesRound turn.child × AgreesOutside turn.child = both_agree q a k g.0 g.1 r node text turn.scope cursor
+      (and_first (tells_parameters q.node.kind r k2 text) (holds_below tells_parameters k2 below && holds_below tells_parameters q.node.kind after) i) (is_open_inside q r own n) own_is
       (and_first (tells_inside q.node.kind r k2 text) (holds_below tells_inside k2 below && holds_below tells_inside q.node.kind after) t)
       (and_first (tells_header q.node.kind r k2 text) (holds_below tells_header k2 below && holds_below tells_header q.node.kind after) h)
-      (child_place q turn.scope cursor r node).chain
-      (chain_of q r turn.scope cursor node (not-true (is_parameter_decorator q.node.kind r) (and_first (not (is_parameter_decorator q.node.kind r)) (not decorated) undecorated)) (is_open_inside q r own n) own_is)
-      opens.whole.0 turn.child entered.whole.0 refl refl
-      (ap (λ b. cond b (outside_function (round_place p q)) (containers_by q.node.kind p.source_type q.node q.path (round_place p q) node ++ round_place p q)) plain) in
+      opens.whole.0 entered.whole.0 in
       each_of_turn AgreedStep turn (record {
         before = opening_case (EachStep AgreedStep) q r own n tt (tt, tt);
         whole = each_of_node AgreedStep turn.child turn.below child
-            (agreed_below turn.child None turn.next turn.inner below entered.whole.0 commons.whole.0 child tt (and_first (is_common_forest k2 below) (is_common_forest q.node.kind after) forests) (and_first (holds_below tells_inside k2 below) (holds_below tells_inside q.node.kind after) tells) (and_first (holds_below tells_header k2 below) (holds_below tells_header q.node.kind after) headed)
+            (agreed_below turn.child None turn.next turn.inner below entered.whole.0 commons.whole.0 child tt (and_first (holds_below tells_inside k2 below) (holds_below tells_inside q.node.kind after) tells) (and_first (holds_below tells_header k2 below) (holds_below tells_header q.node.kind after) headed)
+            (and_first (holds_below tells_parameters k2 below) (holds_below tells_parameters q.node.kind after) params)
             (each_left Entered turn.below (leaving turn.child ∷ []) entered.whole.1) (each_left (CommonStep p) turn.below (leaving turn.child ∷ []) commons.whole.1) (each_left (IsPlaceOpened table) turn.below (leaving turn.child ∷ []) opens.whole.1)) tt;
         behind = ending_case (EachStep AgreedStep) q r turn.scope after tt (λ o. (tt, tt)) (λ o. (tt, tt)) (λ o. (tt, (tt, tt)));
-        others = agreed_below q turn.scope turn.rest turn.past after a k g own_is (and_second (is_common_forest k2 below) (is_common_forest q.node.kind after) forests) (and_second (holds_below tells_inside k2 below) (holds_below tells_inside q.node.kind after) tells) (and_second (holds_below tells_header k2 below) (holds_below tells_header q.node.kind after) headed)
-            entered.others commons.others opens.others;
+        others = agreed_below q turn.scope turn.rest turn.past after a k g own_is (and_second (holds_below tells_inside k2 below) (holds_below tells_inside q.node.kind after) tells) (and_second (holds_below tells_header k2 below) (holds_below tells_header q.node.kind after) headed)
+            (and_second (holds_below tells_parameters k2 below) (holds_below tells_parameters q.node.kind after) params) entered.others commons.others opens.others;
       })
 
   -- outermost there is what `global` blocks declare
@@ -567,7 +603,8 @@ module _ (p : Tree) (h : first_fault p ≡ None) (common : is_common p ≡ true)
       let n : ℕ = on_entering p.root.kind 0 in
       let below : List Step = steps_below root None 0 n p.root.children in
       let es : EachStep Entered (steps p) = all_entered (steps p) (steps p) (λ st a. a) in
-      let ks : EachStep (CommonStep p) (steps p) = common_places p h common in
+      let ks : EachStep (CommonStep p) (steps p) = common_places p h common numbered in
       let os : EachStep (IsPlaceOpened table) (steps p) = places_opened p in
-      each_of_node AgreedStep root below root_agrees
-      (agreed_below root None 0 n p.root.children es.0 ks.0 root_agrees tt common (tree_tells p h) (tree_headed p h) (each_left Entered below (leaving root ∷ []) es.1) (each_left (CommonStep p) below (leaving root ∷ []) ks.1) (each_left (IsPlaceOpened table) below (leaving root ∷ []) os.1)) tt
+      let both : AgreesRound root × AgreesOutside root = (root_agrees, λ e. absurd (never (sym (subst (λ k. is_list_kind k ≡ true) (has_form p h).root e)))) in
+      each_of_node AgreedStep root below both
+      (agreed_below root None 0 n p.root.children es.0 ks.0 both tt (tree_tells p h) (tree_headed p h) (tree_parameters p h) (each_left Entered below (leaving root ∷ []) es.1) (each_left (CommonStep p) below (leaving root ∷ []) ks.1) (each_left (IsPlaceOpened table) below (leaving root ∷ []) os.1)) tt

@@ -17,6 +17,8 @@ pub mod EnteredOnce
 pub mod ScopeOpeners
 pub mod OwnScopes
 pub mod ChildChains
+pub mod ParameterLists
+pub mod OutsidePlaces
 pub mod HeadPlaces
 pub mod VarPlaces
 pub mod VarRoutes

@@ -146,7 +146,7 @@ module _ (p : Tree) (h : first_fault p ≡ None) (common : is_common p ≡ true)
     mine = (of_language p h common typed numbered x simply n a e).1.pair.home.origin
 
     theirs : HasOrigin p c
-    theirs = by ((each_among (CommonStep p) (steps p) (entering q) (common_places p h common) entered).head.origin c there)
+    theirs = by ((each_among (CommonStep p) (steps p) (entering q) (common_places p h common numbered) entered).head.origin c there)
       where
         by : (is_apart c.kind ≡ true) ⊎ HasOrigin p c → HasOrigin p c
         by (inl i) = absurd (never (sym i ∙ ap is_apart (sym kinds) ∙ free))

@@ -501,3 +501,29 @@ own_types =
     ∷ function_body (mention (codes "f") ∷ [])
     ∷ [])))
     ∷ [])
+
+-- `export {}; let a = 1; class C { m(@a a: 1) { a; } }`
+abbrev pub decorated_parameters : Tree
+decorated_parameters =
+    program goal.Module lang.Ts
+    (node role.Body kind.ExportNamedDeclaration [] []
+    ∷ declared role.Body (codes "let") (binding role.Id (codes "a") ∷ number role.Init (codes "1") ∷ [])
+    ∷ node role.Body kind.Class (codes "declaration")
+    (binding role.Id (codes "C")
+    ∷ node role.Body kind.ClassBody []
+    (node role.Body kind.MethodDefinition (codes "method")
+    (node role.Key kind.IdentifierName (codes "m") []
+    ∷ node role.Value kind.Function (codes "expression")
+    (node role.Params kind.FormalParameters (codes "unique")
+    (node role.Items kind.FormalParameter []
+    (node role.Decorators kind.Decorator [] (reference role.Expression (codes "a") ∷ [])
+    ∷ binding role.Pattern (codes "a")
+    ∷ node role.Annotation kind.TSTypeAnnotation [] (node role.Element kind.TSLiteralType [] (number role.Literal (codes "1") ∷ []) ∷ [])
+    ∷ [])
+    ∷ [])
+    ∷ function_body (mention (codes "a") ∷ [])
+    ∷ [])
+    ∷ [])
+    ∷ [])
+    ∷ [])
+    ∷ [])

@@ -7,7 +7,7 @@ use Rattle.tangle_model.specs.Tangled.{tangle_reasons}
 use Rattle.typescript_ties.specs.Resolved.{Resolved, nowhere, declared_in, ResolvedUse, resolved_uses}
 use Rattle.typescript_ties.specs.ResolvedTies.{parting_uses}
 use Rattle.typescript_ties.specs.TriedNames.{is_simple_name}
-use Rattle.typescript_ties.proofs.Programs.{qualified, merged_namespaces, merged_enums, typed_export, exported_namespace, generics, generic_class, overloads, typed_imports, infers, mapped, queries, ambient, sloppy_blocks, strict_blocks, local_types, equated, typed_export_inside, index_parameters, hoisted_names, passed_types, own_names, own_types}
+use Rattle.typescript_ties.proofs.Programs.{qualified, merged_namespaces, merged_enums, typed_export, exported_namespace, generics, generic_class, overloads, typed_imports, infers, mapped, queries, ambient, sloppy_blocks, strict_blocks, local_types, equated, typed_export_inside, index_parameters, hoisted_names, passed_types, own_names, own_types, decorated_parameters}
 
 abbrev identifiers_of : Resolved → List ℕ
 identifiers_of nowhere = []
@@ -275,6 +275,15 @@ own_types_f_untangled : tangle_reasons own_types (codes "f") ≡ []
 unfolding encode chars
 own_types_f_untangled = refl
 
+-- a decorator of a parameter stands outside of the method
+decorated_parameters_meant : map meant_identifiers (resolved_uses decorated_parameters) ≡ (15, 4 ∷ []) ∷ (22, 16 ∷ []) ∷ []
+unfolding encode chars
+decorated_parameters_meant = refl
+
+decorated_parameters_a_agrees : parting_uses decorated_parameters (codes "a") ≡ []
+unfolding encode chars
+decorated_parameters_a_agrees = refl
+
 infers_U_untangled : tangle_reasons infers (codes "U") ≡ []
 unfolding encode chars
 infers_U_untangled = refl
@@ -323,6 +332,10 @@ strict_blocks_f_simple = refl
 generics_a_simple : is_simple_name generics (codes "a") ≡ true
 unfolding encode chars
 generics_a_simple = refl
+
+decorated_parameters_a_simple : is_simple_name decorated_parameters (codes "a") ≡ true
+unfolding encode chars
+decorated_parameters_a_simple = refl
 
 hoisted_names_a_simple : is_simple_name hoisted_names (codes "a") ≡ true
 unfolding encode chars

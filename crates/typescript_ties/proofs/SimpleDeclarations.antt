@@ -102,7 +102,7 @@ module _ (p : Tree) (h : first_fault p ≡ None) (common : is_common p ≡ true)
     pub opened : IsOpened (openers (steps p)) d.route.target
 
   common_at : (q : Place) → Among (entering q) (steps p) → IsCommonPlace p q
-  common_at q a = each_among (CommonStep p) (steps p) (entering q) (common_places p h common) a
+  common_at q a = each_among (CommonStep p) (steps p) (entering q) (common_places p h common numbered) a
 
   known_at : (q : Place) → Among (entering q) (steps p) → IsKnownPlace q
   known_at q a = each_among KnownStep (steps p) (entering q) (known_places p h) a
@@ -139,7 +139,7 @@ module _ (p : Tree) (h : first_fault p ≡ None) (common : is_common p ≡ true)
   ]
 
   well_at : (q : Place) → Among (entering q) (steps p) → StandsWell p q
-  well_at q a = each_among (StandingStep p) (steps p) (entering q) (all_stand_well p h common) a
+  well_at q a = each_among (StandingStep p) (steps p) (entering q) (all_stand_well p h common numbered) a
 
   stays_placed : (w : Declaration) (n : NamedDeclaration) → WayOf p w n → placed ds w ≡ w
   stays_placed w n (stays e) = ap (λ how. placed_by how ds w) e

@@ -1,15 +1,13 @@
 -- At each statement, where the variables go that it declares, by its scopes and by its containers.
-use Rattle.std.proofs.Common.{◌≡◌, ℕ, List, [], ◌∷◌, ◌++◌, Option, Some, None, Bool, true, false, ◌&&◌, not, cond, refl, sym, ap, subst, ◌∙◌, inl, inr}
-use Rattle.std.proofs.lemmas.Bool.{not-true}
-use Rattle.semantic_syntax.proofs.Truth.{and_first, and_second}
-use Rattle.semantic_kinds.specs.Classes.{holds_kind}
+use Rattle.std.proofs.Common.{◌≡◌, ℕ, List, [], ◌∷◌, ◌++◌, Option, Some, None, Bool, true, false, ◌&&◌, cond, refl, sym, ap, subst, ◌∙◌, inl, inr}
+use Rattle.semantic_syntax.proofs.Truth.{and_first, and_second, and_false}
 use Rattle.semantic_kinds.specs.Kinds.{same_kind}
 use Rattle.semantic_kinds.specs.declared.kind.AstType.{AstType}
 use Rattle.semantic_kinds.specs.declared.kind.AstType.TheVariants as kind
 use Rattle.semantic_kinds.specs.declared.role.Role.{Role}
 use Rattle.semantic_tree.specs.Faults.{first_fault}
 use Rattle.semantic_tree.specs.Forest.{Forest, nothing, tree}
-use Rattle.semantic_tree.specs.Tree.{Tree}
+use Rattle.semantic_tree.specs.Tree.{Tree, IsNumbered}
 use Rattle.semantic_tree.specs.declared.node.Node.{Node}
 use Rattle.semantic_model.specs.Binder.{is_var}
 use Rattle.semantic_model.specs.Cursor.{on_entering}
@@ -29,10 +27,11 @@ use Rattle.semantic_model.proofs.steps.TurnCases.{opening_case, ending_case, las
 use Rattle.walk_model.proofs.places.Shapes.{holds_below}
 use Rattle.typescript_ties.specs.Containers.{Container, bound_container, outside_function, containers_by}
 use Rattle.typescript_ties.specs.NamedDeclarations.{from_first_taking}
-use Rattle.typescript_ties.specs.SimpleNames.{is_common_child, is_common_forest, is_common, is_apart, before_first_taking}
-use Rattle.typescript_ties.proofs.ChildPlaces.{tells_inside, told_by_kind, tree_tells}
+use Rattle.typescript_ties.specs.SimpleNames.{is_common, is_apart, before_first_taking}
+use Rattle.typescript_ties.proofs.ChildPlaces.{same_truth, tells_inside, told_by_kind, tree_tells}
 use Rattle.typescript_ties.proofs.Heads.{is_of_header}
 use Rattle.typescript_ties.proofs.HeadPlaces.{IsCommonPlace, CommonStep, common_places, round_place}
+use Rattle.typescript_ties.proofs.ParameterLists.{is_parameter_kind, tells_decorator, stands_in_list, tells_parameters, tree_parameters}
 use Rattle.typescript_ties.proofs.VarPlaces.{is_statement_kind, takes_from, is_var_kind, is_placed, tree_places, placed_in, opened_var, statement_no_var, TakesInside, takes_inside, NoneTakes, from_past, before_past, statement_takes_none, statement_has, TakesFirst, takes_first}
 
 never : true ≡ false → ⊥
@@ -121,6 +120,22 @@ within_var q r (Some s) reached o = go (is_inside q.node.kind r) refl
 chain_var : (q : Place) (r : Role) (own : Option OpenScope) (cursor : ℕ) (node : Node) → is_parameter_decorator q.node.kind r ≡ false → (is_inside q.node.kind r ≡ true → own ≡ None → ⊥) → OwnVar q own → VarChain q.node.kind r q.node q.chain (child_place q own cursor r node).chain
 chain_var q r own cursor node u reached o = subst (λ b. VarChain q.node.kind r q.node q.chain (cond b (outside q.chain) (child_scopes q r own))) (sym u) (within_var q r own reached o)
 
+-- ---- no statement is a decorator
+
+abbrev decorates : AstType → AstType → Bool
+decorates k k2 = is_parameter_kind k && same_kind k2 kind.Decorator
+
+no_decorator : (k k2 : AstType) → is_statement_kind k2 ≡ true → decorates k k2 ≡ false
+no_decorator k kind.Decorator e = absurd (never (sym e))
+no_decorator k _ e = and_false (is_parameter_kind k)
+
+by_role : (k : AstType) (r : Role) (k2 : AstType) (text : List ℕ) → tells_parameters k r k2 text ≡ true → decorates k k2 ≡ false → is_parameter_decorator k r ≡ false
+by_role k r k2 text t e = go (is_parameter_decorator k r) (decorates k k2) (and_first (tells_decorator k r k2) (stands_in_list k r k2) t) e
+  where
+    go : (a b : Bool) → same_truth a b ≡ true → b ≡ false → a ≡ false
+    go true b h i = absurd (never (sym h ∙ i))
+    go false b h i = refl
+
 module _ (p : Tree) where
   -- at a statement
   abbrev pub StandsWell : Place → Type 0
@@ -184,43 +199,40 @@ module _ (p : Tree) where
 
   -- ---- all places
 
-  stand_below : (q : Place) (own : Option OpenScope) (n cursor : ℕ) (f : Forest) → IsCommonPlace p q → StandsWell q → OwnVar q own → is_common_forest q.node.kind f ≡ true → holds_below tells_inside q.node.kind f ≡ true → holds_below is_placed q.node.kind f ≡ true
+  stand_below : (q : Place) (own : Option OpenScope) (n cursor : ℕ) (f : Forest) → IsCommonPlace p q → StandsWell q → OwnVar q own → holds_below tells_inside q.node.kind f ≡ true → holds_below is_placed q.node.kind f ≡ true → holds_below tells_parameters q.node.kind f ≡ true
       → EachStep (CommonStep p) (steps_below q own n cursor f) → EachStep StandingStep (steps_below q own n cursor f)
-  stand_below q own n cursor nothing k g o c t h ks = last_case (EachStep StandingStep) q own n tt (tt, (tt, tt))
-  stand_below q own n cursor (tree r k2 span text marks below id after) k g o c t h ks =
+  stand_below q own n cursor nothing k g o t h i ks = last_case (EachStep StandingStep) q own n tt (tt, (tt, tt))
+  stand_below q own n cursor (tree r k2 span text marks below id after) k g o t h i ks =
       let node : Node = record { kind = k2; span = span; text = text; marks = marks; children = below; node_id = id } in
       let turn : Turn = turn_at q own n cursor r node after in
       let commons : EachOfTurn (CommonStep p) turn = turn_of_each (CommonStep p) turn ks in
-      let here : is_common_child q.node.kind r k2 ≡ true = and_first (is_common_child q.node.kind r k2) (is_common_forest k2 below && is_common_forest q.node.kind after) c in
-      let forests : (is_common_forest k2 below && is_common_forest q.node.kind after) ≡ true = and_second (is_common_child q.node.kind r k2) (is_common_forest k2 below && is_common_forest q.node.kind after) c in
-      let decorated : Bool = holds_kind (kind.FormalParameter ∷ kind.FormalParameterRest ∷ []) q.node.kind && same_kind k2 kind.Decorator in
-      let undecorated : (not (is_parameter_decorator q.node.kind r) && not decorated) ≡ true = and_second (not (same_kind k2 kind.WithStatement)) (not (is_parameter_decorator q.node.kind r) && not decorated) here in
       let tells : (holds_below tells_inside k2 below && holds_below tells_inside q.node.kind after) ≡ true = and_second (tells_inside q.node.kind r k2 text) (holds_below tells_inside k2 below && holds_below tells_inside q.node.kind after) t in
       let places : (holds_below is_placed k2 below && holds_below is_placed q.node.kind after) ≡ true = and_second (is_placed q.node.kind r k2 text) (holds_below is_placed k2 below && holds_below is_placed q.node.kind after) h in
+      let params : (holds_below tells_parameters k2 below && holds_below tells_parameters q.node.kind after) ≡ true = and_second (tells_parameters q.node.kind r k2 text) (holds_below tells_parameters k2 below && holds_below tells_parameters q.node.kind after) i in
       let own_is : OwnVar q turn.scope = own_var q r own n o in
-      let plain : decorated ≡ false = not-true decorated (and_second (not (is_parameter_decorator q.node.kind r)) (not decorated) undecorated) in
-      let child : StandsWell turn.child = λ e. child_stands q k g r node text turn.child commons.whole.0
+      let child : StandsWell turn.child = λ e. (let plain : decorates q.node.kind k2 ≡ false = no_decorator q.node.kind k2 e in
+      child_stands q k g r node text turn.child commons.whole.0
       (and_first (tells_inside q.node.kind r k2 text) (holds_below tells_inside k2 below && holds_below tells_inside q.node.kind after) t) e
       (ap (λ b. cond b (outside_function (round_place p q)) (containers_by q.node.kind p.source_type q.node q.path (round_place p q) node ++ round_place p q)) plain)
       (child_place q turn.scope cursor r node).chain
-      (chain_var q r turn.scope cursor node (not-true (is_parameter_decorator q.node.kind r) (and_first (not (is_parameter_decorator q.node.kind r)) (not decorated) undecorated)) (is_open_inside q r own n) own_is)
-      refl (and_first (is_placed q.node.kind r k2 text) (holds_below is_placed k2 below && holds_below is_placed q.node.kind after) h) in
+      (chain_var q r turn.scope cursor node (by_role q.node.kind r k2 text (and_first (tells_parameters q.node.kind r k2 text) (holds_below tells_parameters k2 below && holds_below tells_parameters q.node.kind after) i) plain) (is_open_inside q r own n) own_is)
+      refl (and_first (is_placed q.node.kind r k2 text) (holds_below is_placed k2 below && holds_below is_placed q.node.kind after) h)) in
       each_of_turn StandingStep turn (record {
         before = opening_case (EachStep StandingStep) q r own n tt (tt, tt);
         whole = each_of_node StandingStep turn.child turn.below child
-            (stand_below turn.child None turn.next turn.inner below commons.whole.0 child tt (and_first (is_common_forest k2 below) (is_common_forest q.node.kind after) forests) (and_first (holds_below tells_inside k2 below) (holds_below tells_inside q.node.kind after) tells) (and_first (holds_below is_placed k2 below) (holds_below is_placed q.node.kind after) places)
-            (each_left (CommonStep p) turn.below (leaving turn.child ∷ []) commons.whole.1)) tt;
+            (stand_below turn.child None turn.next turn.inner below commons.whole.0 child tt (and_first (holds_below tells_inside k2 below) (holds_below tells_inside q.node.kind after) tells) (and_first (holds_below is_placed k2 below) (holds_below is_placed q.node.kind after) places)
+            (and_first (holds_below tells_parameters k2 below) (holds_below tells_parameters q.node.kind after) params) (each_left (CommonStep p) turn.below (leaving turn.child ∷ []) commons.whole.1)) tt;
         behind = ending_case (EachStep StandingStep) q r turn.scope after tt (λ o. (tt, tt)) (λ o. (tt, tt)) (λ o. (tt, (tt, tt)));
-        others = stand_below q turn.scope turn.rest turn.past after k g own_is (and_second (is_common_forest k2 below) (is_common_forest q.node.kind after) forests) (and_second (holds_below tells_inside k2 below) (holds_below tells_inside q.node.kind after) tells) (and_second (holds_below is_placed k2 below) (holds_below is_placed q.node.kind after) places)
-            commons.others;
+        others = stand_below q turn.scope turn.rest turn.past after k g own_is (and_second (holds_below tells_inside k2 below) (holds_below tells_inside q.node.kind after) tells) (and_second (holds_below is_placed k2 below) (holds_below is_placed q.node.kind after) places)
+            (and_second (holds_below tells_parameters k2 below) (holds_below tells_parameters q.node.kind after) params) commons.others;
       })
 
-  pub all_stand_well : first_fault p ≡ None → is_common p ≡ true → EachStep StandingStep (steps p)
-  all_stand_well h c =
+  pub all_stand_well : first_fault p ≡ None → is_common p ≡ true → IsNumbered p.root → EachStep StandingStep (steps p)
+  all_stand_well h c e =
       let root : Place = root_place p in
       let n : ℕ = on_entering p.root.kind 0 in
       let below : List Step = steps_below root None 0 n p.root.children in
-      let ks : EachStep (CommonStep p) (steps p) = common_places p h c in
-      let root_well : StandsWell root = λ e. absurd (never (sym (subst (λ k. is_statement_kind k ≡ true) (has_form p h).root e))) in
+      let ks : EachStep (CommonStep p) (steps p) = common_places p h c e in
+      let root_well : StandsWell root = λ i. absurd (never (sym (subst (λ k. is_statement_kind k ≡ true) (has_form p h).root i))) in
       each_of_node StandingStep root below root_well
-      (stand_below root None 0 n p.root.children ks.0 root_well tt c (tree_tells p h) (tree_places p h) (each_left (CommonStep p) below (leaving root ∷ []) ks.1)) tt
+      (stand_below root None 0 n p.root.children ks.0 root_well tt (tree_tells p h) (tree_places p h) (tree_parameters p h) (each_left (CommonStep p) below (leaving root ∷ []) ks.1)) tt

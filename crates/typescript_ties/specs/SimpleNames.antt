@@ -1,11 +1,9 @@
 -- Names of which tables and language are proved to agree, and where.
 use Rattle.std.specs.Prelude.{◌≡◌, ℕ, ◌==◌, List, [], ◌∷◌, Bool, true, false, ◌&&◌, ◌||◌, not, cond, bytes_eq}
 use Rattle.std.specs.List.{list_any}
-use Rattle.semantic_kinds.specs.Classes.{holds_kind}
 use Rattle.semantic_kinds.specs.Kinds.{same_kind}
 use Rattle.semantic_kinds.specs.declared.kind.AstType.{AstType}
 use Rattle.semantic_kinds.specs.declared.kind.AstType.TheVariants as kind
-use Rattle.semantic_kinds.specs.declared.role.Role.{Role}
 use Rattle.semantic_syntax.specs.Sets.{meets}
 use Rattle.semantic_syntax.specs.Usable.{asks_for_namespace}
 use Rattle.semantic_syntax.specs.Tables.{Name}
@@ -16,7 +14,6 @@ use Rattle.semantic_tree.specs.Views.{is}
 use Rattle.semantic_tree.specs.declared.node.Node.{Node}
 use Rattle.semantic_model.specs.Cursor.{way_or_read}
 use Rattle.semantic_model.specs.Entries.{Among}
-use Rattle.semantic_model.specs.Inside.{is_parameter_decorator}
 use Rattle.semantic_model.specs.Place.{Place}
 use Rattle.semantic_model.specs.Step.{entering, steps}
 use Rattle.typescript_ties.specs.AskedMeanings.{asked_by_reference}
@@ -28,17 +25,16 @@ use Rattle.typescript_ties.specs.declared.container_kind.ContainerKind.TheVarian
 use Rattle.typescript_ties.specs.declared.declaration_sort.DeclarationSort.{DeclarationSort}
 use Rattle.typescript_ties.specs.declared.declaration_sort.DeclarationSort.TheVariants as sort
 
--- no `with`, and no parameter with a decorator
-abbrev pub is_common_child : AstType → Role → AstType → Bool
-is_common_child k r k2 =
-    not (same_kind k2 kind.WithStatement) && (not (is_parameter_decorator k r) && not (holds_kind (kind.FormalParameter ∷ kind.FormalParameterRest ∷ []) k && same_kind k2 kind.Decorator))
+-- no `with`
+abbrev pub is_common_child : AstType → Bool
+is_common_child k = not (same_kind k kind.WithStatement)
 
-abbrev pub is_common_forest : AstType → Forest → Bool
-is_common_forest k nothing = true
-is_common_forest k (tree r k2 span text marks below id after) = is_common_child k r k2 && (is_common_forest k2 below && is_common_forest k after)
+abbrev pub is_common_forest : Forest → Bool
+is_common_forest nothing = true
+is_common_forest (tree r k span text marks below id after) = is_common_child k && (is_common_forest below && is_common_forest after)
 
 abbrev pub is_common : Tree → Bool
-is_common p = is_common_forest p.root.kind p.root.children
+is_common p = is_common_forest p.root.children
 
 -- by `var`, lexical, a parameter, a type, a class, the own name of a function or class, an enum or its member, a namespace, an import, a type parameter, the key of a mapped type, or a function that stays where it stands
 abbrev pub is_simple_sort : DeclarationSort → Bool
