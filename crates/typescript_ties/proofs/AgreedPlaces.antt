@@ -45,15 +45,15 @@ use Rattle.typescript_ties.specs.Resolved.{Resolved, nowhere, declared_in, has_d
 use Rattle.typescript_ties.specs.SeenTogether.{is_in_scope, is_seen_from, bound_together, asked_together}
 use Rattle.typescript_ties.specs.SimpleNames.{is_common, is_apart, IsSimplyDeclared, HasOwnMembers, is_way_of, is_parameter_named, is_past_parameter}
 use Rattle.typescript_ties.specs.declared.declaration_sort.DeclarationSort.TheVariants as sort
-use Rattle.typescript_ties.proofs.ChildChains.{ChainOf, outer_chain, inner_chain, OwnOf, own_of}
+use Rattle.binding_laws.proofs.ChildChains.{ChainOf, outer_chain, inner_chain, OwnOf, own_of}
 use Rattle.typescript_ties.proofs.ChildPlaces.{tells_inside, told_by_kind, tree_tells, tells_header, tree_headed}
-use Rattle.typescript_ties.proofs.EnteredOnce.{entered_once}
+use Rattle.binding_laws.proofs.EnteredOnce.{entered_once}
 use Rattle.typescript_ties.proofs.FitsTogether.{any_meets, AreBoundAs, bound_as_one, is_asked, WayAsks, way_asks}
 use Rattle.typescript_ties.proofs.HeadPlaces.{IsCommonPlace, CommonStep, common_places, round_place}
 use Rattle.typescript_ties.proofs.OutsideGroups.{IsAside, aside_of}
 use Rattle.typescript_ties.proofs.Pairs.{container_kind_is}
 use Rattle.typescript_ties.proofs.ScopeMembers.{IsHidden, SeenAs, seen_as, SeenToo, seen_too}
-use Rattle.typescript_ties.proofs.ScopeOpeners.{openers, IsOpened, AllOpened, IsPlaceOpened, places_opened, root_opener}
+use Rattle.binding_laws.proofs.ScopeOpeners.{openers, IsOpened, AllOpened, IsPlaceOpened, places_opened, root_opener}
 use Rattle.typescript_ties.proofs.OutsidePlaces.{decorated, plain_round, plain_chain, decorator_has, child_out}
 use Rattle.typescript_ties.proofs.ParameterLists.{is_list_kind, tells_parameters, tree_parameters}
 use Rattle.typescript_ties.proofs.SimpleOnes.{is_not_apart}

@@ -27,12 +27,12 @@ use Rattle.semantic_model.proofs.lists.Members.{among_more, among_left, among_la
 use Rattle.semantic_model.proofs.lists.SymbolLaws.{get-update, get-push, get-last}
 use Rattle.semantic_model.proofs.once.ListedUnder.{name_tells}
 use Rattle.binding_laws.specs.SeenDeclarations.{is_own_name, with_declaration, bound_by_all}
-use Rattle.binding_laws.proofs.Growing.{same_flags}
+use Rattle.binding_laws.proofs.Growing.{other_flags, same_flags, rescoped_flags}
 use Rattle.typescript_ties.specs.SeenTogether.{is_in_scope}
 use Rattle.typescript_ties.proofs.FitsTogether.{meets_union}
 use Rattle.typescript_ties.proofs.LikeFlags.{IsVariable, FlagsAlike, SeenAlike, alike_equal, alike_none, none_alike, one_more, variable_adds_none}
 use Rattle.typescript_ties.proofs.MadeOnce.{IsMadeOnce, not_yet}
-use Rattle.typescript_ties.proofs.OtherNames.{LeavesName, leaves_name, flags_rescoped, flags_apart}
+use Rattle.binding_laws.proofs.OtherNames.{LeavesName, leaves_name}
 use Rattle.typescript_ties.proofs.PlainFold.{filter_none, seen_with, or_none, seen_nothing, bound_made, bound_below, count_more, count_same}
 
 never : true ≡ false → ⊥
@@ -327,17 +327,17 @@ module _ (table : List (Option ℕ)) (v : ℕ → ℕ) (ds : List Declaration) w
           ap flags_or_none (get-update join st.symbols s s ∙ ap (λ b. cond b (option_map join (slice_get st.symbols s)) (slice_get st.symbols s)) (eq-eqb s s refl) ∙ ap (option_map join) entry.is_there)
           ∙ ap (λ o. union (flags_or_none o) F) (sym entry.is_there)
 
-      other_flags : (r : ℕ) → (s ≡ r → ⊥) → flags_of (declare_in st t d (Some s)) r ≡ flags_of st r
-      other_flags r k = flags_apart join st.symbols s r k
+      others_keep : (r : ℕ) → (s ≡ r → ⊥) → flags_of (declare_in st t d (Some s)) r ≡ flags_of st r
+      others_keep r k = other_flags join st.symbols s r k
 
       stays_covered : (c r : ℕ) → get st.remembered c x ≡ Some r → (m : ℕ) → meets symbol.FunctionScopedVariable.bits m ≡ true → meets (flags_of (declare_in st t d (Some s)) r) m ≡ true
       stays_covered c r i m e = elim (eqb_tells s r) [
         | inl q ↦ subst (λ z. meets (flags_of (declare_in st t d (Some s)) z) m ≡ true) q.1 (ap (λ f. meets f m) joined_flags ∙ meets_union (flags_of st s) F m ∙ ap (λ b. b || meets F m) (ap (λ z. meets (flags_of st z) m) q.1 ∙ (h.remembered c r i).covers m e))
-        | inr q ↦ ap (λ f. meets f m) (other_flags r q.1) ∙ (h.remembered c r i).covers m e
+        | inr q ↦ ap (λ f. meets f m) (others_keep r q.1) ∙ (h.remembered c r i).covers m e
       ]
 
       joined_state : ClearState x (declare_in st t d (Some s))
-      joined_state = joined (declare_in st t d (Some s)) s refl refl refl g (λ m a. ap (λ f. meets f m) joined_flags) other_flags stays_covered
+      joined_state = joined (declare_in st t d (Some s)) s refl refl refl g (λ m a. ap (λ f. meets f m) joined_flags) others_keep stays_covered
 
     -- what is bound then
     record IsDeclaredIn (new : State) (s : ℕ) : Type 0 where
@@ -574,7 +574,7 @@ module _ (table : List (Option ℕ)) (v : ℕ → ℕ) (ds : List Declaration) w
     taken = act st (takes_over c b)
 
     same_flag : (s : ℕ) → flags_of taken s ≡ flags_of st s
-    same_flag s = flags_rescoped st.symbols (bound_by st.bindings c) b s
+    same_flag s = rescoped_flags st.symbols (bound_by st.bindings c) b s
 
     same_seen : (o : Option ℕ) → seen_as taken o ≡ seen_as st o
     same_seen None = refl

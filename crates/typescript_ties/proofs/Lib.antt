@@ -3,7 +3,6 @@ pub mod Rows
 pub mod KnownPlaces
 pub mod DeclaredAlike
 pub mod UndeclaredFree
-pub mod OtherNames
 pub mod PlainFold
 pub mod LikeFlags
 pub mod MadeOnce
@@ -13,10 +12,7 @@ pub mod TiedTogether
 pub mod ChildPlaces
 pub mod Unheaded
 pub mod Heads
-pub mod EnteredOnce
-pub mod ScopeOpeners
 pub mod OwnScopes
-pub mod ChildChains
 pub mod ParameterLists
 pub mod OutsidePlaces
 pub mod HeadPlaces
@@ -31,7 +27,6 @@ pub mod GroupNodes
 pub mod ScopeMembers
 pub mod OutsideGroups
 pub mod AgreedPlaces
-pub mod ReferredNodes
 pub mod UntangledTies
 pub mod MergedBlocks
 pub mod SharedMembers

@@ -43,7 +43,8 @@ use Rattle.typescript_ties.proofs.KnownPlaces.{is_bare_rest}
 use Rattle.typescript_ties.proofs.LikeFlags.{IsVariable}
 use Rattle.typescript_ties.proofs.VarPlaces.{is_statement_kind}
 use Rattle.typescript_ties.proofs.VarRoutes.{TakesIn, StandsWell}
-use Rattle.typescript_ties.proofs.ScopeOpeners.{openers, IsOpened, AllOpened, among_opened}
+use Rattle.binding_laws.proofs.ScopeOpeners.{openers, IsOpened, AllOpened}
+use Rattle.typescript_ties.proofs.OwnScopes.{among_opened}
 use Rattle.typescript_ties.proofs.SimpleOnes.{sort_is_simple, is_not_apart}
 use Rattle.typescript_ties.proofs.Unheaded.{is_unheaded}
 

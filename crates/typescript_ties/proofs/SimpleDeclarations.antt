@@ -36,9 +36,9 @@ use Rattle.typescript_ties.specs.SimpleNames.{is_common, is_simple_sort, is_simp
 use Rattle.typescript_ties.specs.declared.declaration_sort.DeclarationSort.TheVariants as sort
 use Rattle.typescript_ties.proofs.HeadPlaces.{IsCommonPlace, CommonStep, common_places}
 use Rattle.typescript_ties.proofs.KnownPlaces.{IsKnownPlace, KnownStep, known_places}
-use Rattle.typescript_ties.proofs.OwnScopes.{OwnScope, OwnStep, own_program}
+use Rattle.typescript_ties.proofs.OwnScopes.{among_opened, OwnScope, OwnStep, own_program}
 use Rattle.typescript_ties.proofs.Pairs.{IsPassedAs, WayOf, stays, goes_out, IsSimplePair, AllPairs, map_among, pair_of_written, pair_of_named, pairs_by}
-use Rattle.typescript_ties.proofs.ScopeOpeners.{openers, IsOpened, AllOpened, IsPlaceOpened, places_opened, innermost_opened, among_opened}
+use Rattle.binding_laws.proofs.ScopeOpeners.{openers, IsOpened, AllOpened, IsPlaceOpened, places_opened, innermost_opened, root_opener}
 use Rattle.typescript_ties.proofs.ClearFold.{AllClear, ClearState}
 use Rattle.typescript_ties.proofs.ClearTies.{clear_at_last}
 use Rattle.typescript_ties.proofs.LikeFlags.{IsVariable}
@@ -111,7 +111,7 @@ module _ (p : Tree) (h : first_fault p ≡ None) (common : is_common p ≡ true)
   chain_opened q a = each_among (IsPlaceOpened (openers (steps p))) (steps p) (entering q) (places_opened p) a
 
   head_opened : (q : Place) → Among (entering q) (steps p) → IsOpened (openers (steps p)) (innermost q.chain)
-  head_opened q a = innermost_opened p (has_form p h).root numbered q.chain (chain_opened q a)
+  head_opened q a = innermost_opened (openers (steps p)) (root_opener p (has_form p h).root numbered) q.chain (chain_opened q a)
 
   -- the number of a place's scope
   record OwnCount (q : Place) : Type 0 where

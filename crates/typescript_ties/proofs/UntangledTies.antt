@@ -61,7 +61,7 @@ use Rattle.typescript_ties.proofs.OwnMembers.{own_members}
 use Rattle.typescript_ties.proofs.ClearFold.{ClearState}
 use Rattle.typescript_ties.proofs.ClearTies.{clearly_tied}
 use Rattle.typescript_ties.proofs.LikeFlags.{FlagsAlike, SeenAlike}
-use Rattle.typescript_ties.proofs.ReferredNodes.{IsReferred, is_referred}
+use Rattle.binding_laws.proofs.ReferredNodes.{IsReferred, is_referred}
 use Rattle.typescript_ties.proofs.SimpleDeclarations.{is_clear, clear_state}
 use Rattle.typescript_ties.proofs.UndeclaredFree.{each_among}
 
