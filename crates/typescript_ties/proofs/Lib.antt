@@ -29,7 +29,9 @@ pub mod FitsTogether
 pub mod GroupNodes
 pub mod ScopeMembers
 pub mod OutsideGroups
+pub mod PastParameters
 pub mod AgreedPlaces
+pub mod HiddenParameters
 pub mod ReferredNodes
 pub mod UntangledTies
 pub mod MergedBlocks

@@ -333,9 +333,9 @@ infers_U_not_simple : is_simple_name infers (codes "U") ≡ false
 unfolding encode chars
 infers_U_not_simple = refl
 
-queries_a_not_simple : is_simple_name queries (codes "a") ≡ false
+queries_a_simple : is_simple_name queries (codes "a") ≡ true
 unfolding encode chars
-queries_a_not_simple = refl
+queries_a_simple = refl
 
 sloppy_blocks_f_not_simple : is_simple_name sloppy_blocks (codes "f") ≡ false
 unfolding encode chars
