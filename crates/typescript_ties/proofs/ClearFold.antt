@@ -1,7 +1,7 @@
 -- Through all events, what a scope binds to a name whose variables pass no scope that has it is like what its declarations there bind together.
 use Rattle.std.proofs.Common.{◌≡◌, ℕ, ◌<◌, ◌==◌, List, [], ◌∷◌, ◌++◌, Option, Some, None, Bool, true, false, ◌&&◌, ◌||◌, cond, inl, inr, ◌⊎◌, refl, sym, ap, subst, ◌∙◌, length, filter, map, option_map, bytes_eq, arith}
 use Rattle.std.specs.Prelude.{slice_get}
-use Rattle.std.proofs.lemmas.Bool.{ne_eqb, eq-eqb, and_from, and_left, and_right}
+use Rattle.std.proofs.lemmas.Bool.{cases_Bool, ne_eqb, eq-eqb, and_from, and_left, and_right}
 use Rattle.std.proofs.lemmas.Bool.Decides.{eqb_tells}
 use Rattle.semantic_syntax.specs.Members.{contains}
 use Rattle.semantic_syntax.specs.declared.symbol_flags.TheConstants.SymbolFlags as symbol
@@ -23,24 +23,25 @@ use Rattle.semantic_model.proofs.fold.Orders.{Adds, adds}
 use Rattle.semantic_model.proofs.fold.Soundness.{sound-change}
 use Rattle.semantic_model.proofs.fold.TakeOvers.{Ready, two, IsReady, Orderly, sound_act}
 use Rattle.semantic_model.proofs.lists.BindingLaws.{get-put, get-put_other, get_among, same_key_tells, among_taken, get-take_over_other, get-take_over_kept}
-use Rattle.semantic_model.proofs.lists.Members.{among_more}
+use Rattle.semantic_model.proofs.lists.Members.{among_more, among_left, among_last}
 use Rattle.semantic_model.proofs.lists.SymbolLaws.{get-update, get-push, get-last}
 use Rattle.semantic_model.proofs.once.ListedUnder.{name_tells}
 use Rattle.binding_laws.specs.SeenDeclarations.{is_own_name, with_declaration, bound_by_all}
-use Rattle.binding_laws.proofs.Growing.{same_flags}
+use Rattle.binding_laws.proofs.Growing.{other_flags, same_flags, rescoped_flags}
 use Rattle.typescript_ties.specs.SeenTogether.{is_in_scope}
 use Rattle.typescript_ties.proofs.FitsTogether.{meets_union}
 use Rattle.typescript_ties.proofs.LikeFlags.{IsVariable, FlagsAlike, SeenAlike, alike_equal, alike_none, none_alike, one_more, variable_adds_none}
-use Rattle.typescript_ties.proofs.OtherNames.{LeavesName, leaves_name, flags_rescoped, flags_apart}
+use Rattle.typescript_ties.proofs.MadeOnce.{IsMadeOnce, not_yet}
+use Rattle.binding_laws.proofs.OtherNames.{LeavesName, leaves_name}
 use Rattle.typescript_ties.proofs.PlainFold.{filter_none, seen_with, or_none, seen_nothing, bound_made, bound_below, count_more, count_same}
 
 never : true ≡ false → ⊥
 never h = absurd cc
 
--- as `var` declares it, past no scope where the name is declared, or plainly; not by a catch clause and not as a function's own name
+-- as `var` declares it, past no scope where the name is declared, or plainly; not by a catch clause, and as a function's own name where its scope has no other
 pub record IsClearDeclaration (ds : List Declaration) (d : Declaration) : Type 0 where
   pub lasting : d.route.target.body ≡ None
-  pub no_own : is_own_name d ≡ false
+  pub alone : is_own_name d ≡ true → (e : Declaration) → Among e ds → e.naming.name ≡ d.naming.name → e.route.target.number ≡ d.route.target.number → e.naming.identifier ≡ d.naming.identifier
   pub way : (d.how ≡ plain) ⊎ ((d.how ≡ hoisted) × (IsVariable d × ((e : Declaration) → Among e ds → e.naming.name ≡ d.naming.name → contains (map (λ s. s.number) d.route.passed) e.route.target.number ≡ false)))
 
 abbrev pub AllClear : List Declaration → Name → Type 0
@@ -48,6 +49,17 @@ AllClear ds x = (d : Declaration) → Among d ds → d.naming.name ≡ x → IsC
 
 not_some : {A : Type 0} → (a : A) → None ≡ Some a → ⊥
 not_some a e = absurd cc
+
+-- the scope has the name as a function's own
+pub record IsOwnBound (x : Name) (ms : List Made) (c : ℕ) : Type 0 where
+  pub made : Made
+  pub among : Among made ms
+  pub named : made.declaration.naming.name ≡ x
+  pub there : made.declaration.route.target.number ≡ c
+  pub own : is_own_name made.declaration ≡ true
+
+own_later : (x : Name) (ms : List Made) (m : Made) (c : ℕ) → IsOwnBound x ms c → IsOwnBound x (ms ++ m ∷ []) c
+own_later x ms m c k = record { made = k.made; among = among_left k.made ms (m ∷ []) k.among; named = k.named; there = k.there; own = k.own }
 
 module _ (table : List (Option ℕ)) (v : ℕ → ℕ) (ds : List Declaration) where
   -- no declaration of the name goes to the scope
@@ -64,7 +76,7 @@ module _ (table : List (Option ℕ)) (v : ℕ → ℕ) (ds : List Declaration) w
     pub counted : (c : ℕ) → SeenAlike (seen_as st (get st.bindings c x)) (bound_by_all (filter (is_in_scope c x) st.made))
     pub same : (m : Made) → Among m st.made → m.declaration.naming.name ≡ x → get st.bindings m.declaration.route.target.number x ≡ Some m.symbol
     pub apart : (c e s : ℕ) → get st.bindings c x ≡ Some s → get st.bindings e x ≡ Some s → c ≡ e
-    pub visible : (c s : ℕ) → get st.bindings c x ≡ Some s → meets (flags_of st s) symbol.FunctionExpression.bits ≡ false
+    pub visible : (c s : ℕ) → get st.bindings c x ≡ Some s → (meets (flags_of st s) symbol.FunctionExpression.bits ≡ false) ⊎ IsOwnBound x st.made c
     pub remembered : (c s : ℕ) → get st.remembered c x ≡ Some s → IsPassedWith x st c s
     pub declared : (m : Made) → Among m st.made → Among m.declaration ds
 
@@ -82,7 +94,10 @@ module _ (table : List (Option ℕ)) (v : ℕ → ℕ) (ds : List Declaration) w
       | inr q ↦ absurd (n (ap (λ (y : Made). y.declaration.naming.name) q ∙ e))
     ];
     apart = λ c e s g k. h.apart c e s (sym (u.bindings c) ∙ g) (sym (u.bindings e) ∙ k);
-    visible = λ c s g. ap (λ f. meets f symbol.FunctionExpression.bits) (flags_same c s (sym (u.bindings c) ∙ g)) ∙ h.visible c s (sym (u.bindings c) ∙ g);
+    visible = λ c s g. elim (h.visible c s (sym (u.bindings c) ∙ g)) [
+      | inl e ↦ inl (ap (λ f. meets f symbol.FunctionExpression.bits) (flags_same c s (sym (u.bindings c) ∙ g)) ∙ e)
+      | inr k ↦ inr (subst (λ ms. IsOwnBound x ms c) (sym w.adds) (own_later x st.made last c k))
+    ];
     remembered = λ c s g. (let k : IsPassedWith x st c s = h.remembered c s (sym (u.remembered c) ∙ g) in
         record { bound = u.bindings (v c) ∙ k.bound; covers = λ m e. ap (λ f. meets f m) (flags_same (v c) s k.bound) ∙ k.covers m e; untargeted = k.untargeted });
     declared = λ m a. elim (among_more m last st.made (subst (Among m) w.adds a)) [ inl b ↦ h.declared m b | inr q ↦ subst (λ (y : Made). Among y.declaration ds) q there ];
@@ -139,7 +154,7 @@ module _ (table : List (Option ℕ)) (v : ℕ → ℕ) (ds : List Declaration) w
 
   -- ---- a declaration of the name
 
-  module _ (st : State) (d : Declaration) (there : Among d ds) (no_own : is_own_name d ≡ false) (sound : Sound table st) (h : ClearState d.naming.name st) where
+  module _ (st : State) (d : Declaration) (there : Among d ds) (seen : (s : ℕ) → get st.bindings d.route.target.number d.naming.name ≡ Some s → meets (flags_of st s) symbol.FunctionExpression.bits ≡ false) (sound : Sound table st) (h : ClearState d.naming.name st) where
     abbrev x : Name
     x = d.naming.name
 
@@ -172,6 +187,13 @@ module _ (table : List (Option ℕ)) (v : ℕ → ℕ) (ds : List Declaration) w
 
     now_declared : (m : Made) (s : ℕ) → Among m (st.made ++ record { declaration = d; symbol = s } ∷ []) → Among m.declaration ds
     now_declared m s a = elim (among_more m (record { declaration = d; symbol = s }) st.made a) [ inl b ↦ h.declared m b | inr q ↦ subst (λ (y : Made). Among y.declaration ds) q there ]
+
+    -- a symbol with its flags
+    own_or_not : (ms : List Made) (s : ℕ) (f : ℕ) → meets f symbol.FunctionExpression.bits ≡ is_own_name d → Among {A = Made} (record { declaration = d; symbol = s }) ms → (c : ℕ) → t ≡ c → (meets f symbol.FunctionExpression.bits ≡ false) ⊎ IsOwnBound x ms c
+    own_or_not ms s f e a c q = elim (cases_Bool (is_own_name d)) [
+      | inr i ↦ inl (e ∙ i)
+      | inl i ↦ inr (record { made = record { declaration = d; symbol = s }; among = a; named = refl; there = q; own = i })
+    ]
 
     -- a scope that it doesn't go to
     elsewhere : (new : State) (c s : ℕ) → new.made ≡ st.made ++ record { declaration = d; symbol = s } ∷ [] → (t ≡ c → ⊥) → seen_as new (get new.bindings c x) ≡ seen_as st (get st.bindings c x) → SeenAlike (seen_as new (get new.bindings c x)) (bound_by_all (filter (is_in_scope c x) new.made))
@@ -219,8 +241,11 @@ module _ (table : List (Option ℕ)) (v : ℕ → ℕ) (ds : List Declaration) w
         ];
         apart = apart;
         visible = λ c s g. elim (eqb_tells t c) [
-          | inl q ↦ ap (λ r. meets (flags_of made_state r) symbol.FunctionExpression.bits) (some_is s n (sym g ∙ put_here c q.1)) ∙ ap (λ f. meets f symbol.FunctionExpression.bits) new_flags ∙ no_own
-          | inr q ↦ (let k : get st.bindings c x ≡ Some s = sym (put_other c q.1) ∙ g in ap (λ f. meets f symbol.FunctionExpression.bits) (old_flags c s k) ∙ h.visible c s k)
+          | inl q ↦ own_or_not (st.made ++ last ∷ []) n (flags_of made_state s) (ap (λ r. meets (flags_of made_state r) symbol.FunctionExpression.bits) (some_is s n (sym g ∙ put_here c q.1)) ∙ ap (λ f. meets f symbol.FunctionExpression.bits) new_flags) (among_last last st.made) c q.1
+          | inr q ↦ (let k : get st.bindings c x ≡ Some s = sym (put_other c q.1) ∙ g in elim (h.visible c s k) [
+            | inl e ↦ inl (ap (λ f. meets f symbol.FunctionExpression.bits) (old_flags c s k) ∙ e)
+            | inr o ↦ inr (own_later x st.made last c o)
+          ])
         ];
         remembered = λ c s g. (let k : IsPassedWith x st c s = h.remembered c s g in
             record { bound = put_other (v c) (not_unbound (v c) s k.bound) ∙ k.bound; covers = λ m e. ap (λ f. meets f m) (old_flags (v c) s k.bound) ∙ k.covers m e; untargeted = k.untargeted });
@@ -273,8 +298,12 @@ module _ (table : List (Option ℕ)) (v : ℕ → ℕ) (ds : List Declaration) w
         ];
         apart = λ c e r g k. h.apart c e r (sym (now c) ∙ g) (sym (now e) ∙ k);
         visible = λ c r g. elim (eqb_tells s r) [
-          | inl q ↦ subst (λ z. meets (flags_of new z) symbol.FunctionExpression.bits ≡ false) q.1 (grown symbol.FunctionExpression.bits refl ∙ meets_union (flags_of st s) F symbol.FunctionExpression.bits ∙ (λ i. h.visible t s bound i || no_own i))
-          | inr q ↦ ap (λ f. meets f symbol.FunctionExpression.bits) (others r q.1) ∙ h.visible c r (sym (now c) ∙ g)
+          | inl q ↦ subst (λ ms. (meets (flags_of new r) symbol.FunctionExpression.bits ≡ false) ⊎ IsOwnBound x ms c) (sym made)
+              (own_or_not (st.made ++ one ∷ []) s (flags_of new r) (ap (λ z. meets (flags_of new z) symbol.FunctionExpression.bits) (sym q.1) ∙ grown symbol.FunctionExpression.bits refl ∙ meets_union (flags_of st s) F symbol.FunctionExpression.bits ∙ ap (λ b. b || meets F symbol.FunctionExpression.bits) (seen s bound)) (among_last one st.made) c (h.apart t c s bound (sym (now c) ∙ g ∙ ap Some (sym q.1))))
+          | inr q ↦ elim (h.visible c r (sym (now c) ∙ g)) [
+            | inl e ↦ inl (ap (λ f. meets f symbol.FunctionExpression.bits) (others r q.1) ∙ e)
+            | inr o ↦ inr (subst (λ ms. IsOwnBound x ms c) (sym made) (own_later x st.made one c o))
+          ]
         ];
         remembered = λ c r g. (let i : get st.remembered c x ≡ Some r = sym (ap (λ bs. get bs c x) remembers) ∙ g in
             let k : IsPassedWith x st c r = h.remembered c r i in
@@ -298,17 +327,17 @@ module _ (table : List (Option ℕ)) (v : ℕ → ℕ) (ds : List Declaration) w
           ap flags_or_none (get-update join st.symbols s s ∙ ap (λ b. cond b (option_map join (slice_get st.symbols s)) (slice_get st.symbols s)) (eq-eqb s s refl) ∙ ap (option_map join) entry.is_there)
           ∙ ap (λ o. union (flags_or_none o) F) (sym entry.is_there)
 
-      other_flags : (r : ℕ) → (s ≡ r → ⊥) → flags_of (declare_in st t d (Some s)) r ≡ flags_of st r
-      other_flags r k = flags_apart join st.symbols s r k
+      others_keep : (r : ℕ) → (s ≡ r → ⊥) → flags_of (declare_in st t d (Some s)) r ≡ flags_of st r
+      others_keep r k = other_flags join st.symbols s r k
 
       stays_covered : (c r : ℕ) → get st.remembered c x ≡ Some r → (m : ℕ) → meets symbol.FunctionScopedVariable.bits m ≡ true → meets (flags_of (declare_in st t d (Some s)) r) m ≡ true
       stays_covered c r i m e = elim (eqb_tells s r) [
         | inl q ↦ subst (λ z. meets (flags_of (declare_in st t d (Some s)) z) m ≡ true) q.1 (ap (λ f. meets f m) joined_flags ∙ meets_union (flags_of st s) F m ∙ ap (λ b. b || meets F m) (ap (λ z. meets (flags_of st z) m) q.1 ∙ (h.remembered c r i).covers m e))
-        | inr q ↦ ap (λ f. meets f m) (other_flags r q.1) ∙ (h.remembered c r i).covers m e
+        | inr q ↦ ap (λ f. meets f m) (others_keep r q.1) ∙ (h.remembered c r i).covers m e
       ]
 
       joined_state : ClearState x (declare_in st t d (Some s))
-      joined_state = joined (declare_in st t d (Some s)) s refl refl refl g (λ m a. ap (λ f. meets f m) joined_flags) other_flags stays_covered
+      joined_state = joined (declare_in st t d (Some s)) s refl refl refl g (λ m a. ap (λ f. meets f m) joined_flags) others_keep stays_covered
 
     -- what is bound then
     record IsDeclaredIn (new : State) (s : ℕ) : Type 0 where
@@ -336,14 +365,14 @@ module _ (table : List (Option ℕ)) (v : ℕ → ℕ) (ds : List Declaration) w
       where
         by : (o : Option ℕ) → get st.bindings t x ≡ o → unless_expression (flags_of st) o ≡ o
         by None g = refl
-        by (Some s) g = ap (λ b. cond b None (Some s)) (h.visible t s g)
+        by (Some s) g = ap (λ b. cond b None (Some s)) (seen s g)
 
     plain_state : IsDeclaredIn (declare_in st t d (found st t x)) (chosen st (found st t x))
     plain_state = subst (λ o. IsDeclaredIn (declare_in st t d o) (chosen st o)) (sym is_found) (declared_state (get st.bindings t x) refl)
 
   -- ---- a variable
 
-  module _ (st : State) (d : Declaration) (there : Among d ds) (no_own : is_own_name d ≡ false) (sound : Sound table st) (h : ClearState d.naming.name st)
+  module _ (st : State) (d : Declaration) (there : Among d ds) (seen : (s : ℕ) → get st.bindings d.route.target.number d.naming.name ≡ Some s → meets (flags_of st s) symbol.FunctionExpression.bits ≡ false) (sound : Sound table st) (h : ClearState d.naming.name st)
       (variable : IsVariable d) (led : AllLead v table d.route.passed d.route.target.number) (unpassed : (e : Declaration) → Among e ds → e.naming.name ≡ d.naming.name → contains (map (λ s. s.number) d.route.passed) e.route.target.number ≡ false) where
     abbrev y : Name
     y = d.naming.name
@@ -459,9 +488,12 @@ module _ (table : List (Option ℕ)) (v : ℕ → ℕ) (ds : List Declaration) w
     told : IsAgainst y st before
     told = against_each y d (asked_symbols st d.route.passed y) st h sound
 
+    still_seen : (s : ℕ) → get before.bindings goal y ≡ Some s → meets (flags_of before s) symbol.FunctionExpression.bits ≡ false
+    still_seen s g = ap (λ ys. meets (flags_or_none (slice_get ys s)) symbol.FunctionExpression.bits) told.symbols ∙ seen s (sym (ap (λ bs. get bs goal y) told.bindings) ∙ g)
+
     hoisted_by : (o : Option PassedSymbol) → passed_symbol st d.route.passed y ≡ o → ClearState y (hoist_by before d o)
     hoisted_by None e =
-        let w : IsDeclaredIn before d there no_own told.sound told.clear (declare_in before goal d (found before goal y)) (chosen before (found before goal y)) = plain_state before d there no_own told.sound told.clear in
+        let w : IsDeclaredIn before d there still_seen told.sound told.clear (declare_in before goal d (found before goal y)) (chosen before (found before goal y)) = plain_state before d there still_seen told.sound told.clear in
         remembering_state (declare_in before goal d (found before goal y)) (chosen before (found before goal y)) w.clear w.bound (λ m i. w.covers m (covers_variable m i))
     hoisted_by (Some k) e = subst (λ o. ClearState y (remembering (move_symbol noted k.scope goal y k.symbol o) d.route.passed y k.symbol)) (sym bound) (remembering_state noted k.symbol noted_state bound (λ m i. ap (λ f. meets f m) (flags_noted k.symbol) ∙ covers m i))
       where
@@ -481,20 +513,30 @@ module _ (table : List (Option ℕ)) (v : ℕ → ℕ) (ds : List Declaration) w
         flags_noted r = same_flags (redeclared d.naming) before.symbols k.symbol r (λ z. refl)
 
         noted_state : ClearState y noted
-        noted_state = joined before d there no_own told.sound told.clear noted k.symbol refl refl refl bound (λ m a. ap (λ f. meets f m) (flags_noted k.symbol) ∙ variable_adds_none d variable (flags_of before k.symbol) covers m a) (λ r i. flags_noted r)
+        noted_state = joined before d there still_seen told.sound told.clear noted k.symbol refl refl refl bound (λ m a. ap (λ f. meets f m) (flags_noted k.symbol) ∙ variable_adds_none d variable (flags_of before k.symbol) covers m a) (λ r i. flags_noted r)
             (λ c r g m i. ap (λ f. meets f m) (flags_noted r) ∙ (told.clear.remembered c r g).covers m i)
 
     hoisted_state : ClearState y (hoist st d)
     hoisted_state = hoisted_by (passed_symbol st d.route.passed y) refl
 
-  own_state : (x : Name) (st : State) (d : Declaration) → d.naming.name ≡ x → Among d ds → IsClearDeclaration ds d → IsLed v table d.how d.route → Sound table st → ClearState x st → ClearState x (act st (declares d))
-  own_state x st d e there k led sound h = subst (λ z. ClearState z (act st (declares d))) e (elim k.way [
-    | inl how ↦ subst (λ w. ClearState d.naming.name (declare_by w st d)) (sym how) (plain_state st d there k.no_own sound mine).clear
-    | inr w ↦ subst (λ how. ClearState d.naming.name (declare_by how st d)) (sym w.0) (hoisted_state st d there k.no_own sound mine w.1.0 (subst (λ how. IsLed v table how d.route) w.0 led) w.1.1)
+  own_state : (x : Name) (st : State) (d : Declaration) → d.naming.name ≡ x → Among d ds → AllClear ds x → ((m : Made) → Among m st.made → m.declaration.naming.identifier ≡ d.naming.identifier → ⊥) → IsLed v table d.how d.route → Sound table st → ClearState x st → ClearState x (act st (declares d))
+  own_state x st d e there clear anew led sound h = subst (λ z. ClearState z (act st (declares d))) e (elim k.way [
+    | inl how ↦ subst (λ w. ClearState d.naming.name (declare_by w st d)) (sym how) (plain_state st d there seen sound mine).clear
+    | inr w ↦ subst (λ how. ClearState d.naming.name (declare_by how st d)) (sym w.0) (hoisted_state st d there seen sound mine w.1.0 (subst (λ how. IsLed v table how d.route) w.0 led) w.1.1)
   ])
     where
+      k : IsClearDeclaration ds d
+      k = clear d there e
+
       mine : ClearState d.naming.name st
       mine = subst (λ z. ClearState z st) (sym e) h
+
+      -- no function has the name as its own there
+      seen : (s : ℕ) → get st.bindings d.route.target.number d.naming.name ≡ Some s → meets (flags_of st s) symbol.FunctionExpression.bits ≡ false
+      seen s g = elim (mine.visible d.route.target.number s g) [
+        | inl i ↦ i
+        | inr o ↦ absurd (anew o.made o.among (sym ((clear o.made.declaration (h.declared o.made o.among) (o.named ∙ e)).alone o.own d there (sym o.named) (sym o.there))))
+      ]
 
   -- ---- a body takes over a clause, which doesn't bind the name
 
@@ -532,7 +574,7 @@ module _ (table : List (Option ℕ)) (v : ℕ → ℕ) (ds : List Declaration) w
     taken = act st (takes_over c b)
 
     same_flag : (s : ℕ) → flags_of taken s ≡ flags_of st s
-    same_flag s = flags_rescoped st.symbols (bound_by st.bindings c) b s
+    same_flag s = rescoped_flags st.symbols (bound_by st.bindings c) b s
 
     same_seen : (o : Option ℕ) → seen_as taken o ≡ seen_as st o
     same_seen None = refl
@@ -543,7 +585,10 @@ module _ (table : List (Option ℕ)) (v : ℕ → ℕ) (ds : List Declaration) w
       counted = λ e. subst (λ z. SeenAlike z (bound_by_all (filter (is_in_scope e x) st.made))) (sym (ap (seen_as taken) (taken_same e) ∙ same_seen (get st.bindings e x))) (h.counted e);
       same = λ m a e. taken_same m.declaration.route.target.number ∙ h.same m a e;
       apart = λ e f s g k. h.apart e f s (sym (taken_same e) ∙ g) (sym (taken_same f) ∙ k);
-      visible = λ e s g. ap (λ f. meets f symbol.FunctionExpression.bits) (same_flag s) ∙ h.visible e s (sym (taken_same e) ∙ g);
+      visible = λ e s g. elim (h.visible e s (sym (taken_same e) ∙ g)) [
+        | inl i ↦ inl (ap (λ f. meets f symbol.FunctionExpression.bits) (same_flag s) ∙ i)
+        | inr o ↦ inr o
+      ];
       remembered = λ e s g. (let k : IsPassedWith x st e s = h.remembered e s g in record { bound = taken_same (v e) ∙ k.bound; covers = λ m i. ap (λ f. meets f m) (same_flag s) ∙ k.covers m i; untargeted = k.untargeted });
       declared = h.declared;
     }
@@ -553,13 +598,13 @@ module _ (table : List (Option ℕ)) (v : ℕ → ℕ) (ds : List Declaration) w
   abbrev AllAmong : List Event → Type 0
   AllAmong es = (d : Declaration) → Among d (declarations es) → Among d ds
 
-  one_event : (x : Name) (st : State) (e : Event) (es : List Event) → IsReady table st e → Sound table st → AllClear ds x → AllAmong (e ∷ es) → AllEventsLed v table (e ∷ es) → ClearState x st → ClearState x (act st e)
-  one_event x st (declares d) es ready sound clear all led h = elim (name_tells d.naming.name x) [
-    | inl q ↦ own_state x st d q.1 (all d (inl refl)) (clear d (all d (inl refl)) q.1) led.0 sound h
+  one_event : (x : Name) (st : State) (e : Event) (es : List Event) → IsReady table st e → Sound table st → AllClear ds x → AllAmong (e ∷ es) → AllEventsLed v table (e ∷ es) → IsMadeOnce (run st (e ∷ es)).made → ClearState x st → ClearState x (act st e)
+  one_event x st (declares d) es ready sound clear all led once h = elim (name_tells d.naming.name x) [
+    | inl q ↦ own_state x st d q.1 (all d (inl refl)) clear (not_yet st d es once) led.0 sound h
     | inr q ↦ other_state x st d (all d (inl refl)) q.1 ready sound h
   ]
-  one_event x st (takes_over c b) es ready sound clear all led h = taken_state x st c b ready clear h
-  one_event x st (ends_header c) es ready sound clear all led h = h
+  one_event x st (takes_over c b) es ready sound clear all led once h = taken_state x st c b ready clear h
+  one_event x st (ends_header c) es ready sound clear all led once h = h
 
   among_rest : (e : Event) (es : List Event) → AllAmong (e ∷ es) → AllAmong es
   among_rest (declares d) es all f a = all f (inr a)
@@ -571,10 +616,10 @@ module _ (table : List (Option ℕ)) (v : ℕ → ℕ) (ds : List Declaration) w
   led_rest (takes_over c b) es l = l
   led_rest (ends_header c) es l = l
 
-  clear_run : (x : Name) (st : State) (es : List Event) → Orderly table st es → Sound table st → AllClear ds x → AllAmong es → AllEventsLed v table es → ClearState x st → ClearState x (run st es)
-  clear_run x st [] order sound clear all led h = h
-  clear_run x st (e ∷ es) order sound clear all led h =
-      clear_run x (act st e) es order.1 (sound_act table st e order.0 sound) clear (among_rest e es all) (led_rest e es led) (one_event x st e es order.0 sound clear all led h)
+  clear_run : (x : Name) (st : State) (es : List Event) → Orderly table st es → Sound table st → AllClear ds x → AllAmong es → AllEventsLed v table es → IsMadeOnce (run st es).made → ClearState x st → ClearState x (run st es)
+  clear_run x st [] order sound clear all led once h = h
+  clear_run x st (e ∷ es) order sound clear all led once h =
+      clear_run x (act st e) es order.1 (sound_act table st e order.0 sound) clear (among_rest e es all) (led_rest e es led) once (one_event x st e es order.0 sound clear all led once h)
 
-  pub clear_in_end : (x : Name) (es : List Event) → Orderly table start es → Sound table start → AllClear ds x → AllAmong es → AllEventsLed v table es → ClearState x (run start es)
-  clear_in_end x es order sound clear all led = clear_run x start es order sound clear all led (clear_start x)
+  pub clear_in_end : (x : Name) (es : List Event) → Orderly table start es → Sound table start → AllClear ds x → AllAmong es → AllEventsLed v table es → IsMadeOnce (run start es).made → ClearState x (run start es)
+  clear_in_end x es order sound clear all led once = clear_run x start es order sound clear all led once (clear_start x)

@@ -4,7 +4,7 @@ use Rattle.std.proofs.lemmas.Option.{slice_get_within}
 use Rattle.semantic_syntax.specs.Lookup.{lookup}
 use Rattle.semantic_syntax.specs.Tables.{Name}
 use Rattle.semantic_tree.specs.Faults.{first_fault}
-use Rattle.semantic_tree.specs.Tree.{Tree}
+use Rattle.semantic_tree.specs.Tree.{Tree, IsNumbered}
 use Rattle.semantic_model.specs.Binding.{get}
 use Rattle.semantic_model.specs.Event.{events, declarations, written_declarations}
 use Rattle.semantic_model.specs.Fold.{State, start}
@@ -26,9 +26,10 @@ use Rattle.binding_laws.specs.SeenDeclarations.{bound_by_all, bound_before_body,
 use Rattle.binding_laws.proofs.TiedOutward.{ties_are_outward}
 use Rattle.typescript_ties.specs.SeenTogether.{is_in_scope, bound_together, asked_together, AreTiedTogether}
 use Rattle.typescript_ties.proofs.ClearFold.{AllClear, ClearState, clear_in_end}
+use Rattle.typescript_ties.proofs.MadeOnce.{made_once}
 use Rattle.typescript_ties.proofs.LikeFlags.{SeenAlike, AllAlike, alike_self, alike_looked_up}
 
-module _ (p : Tree) (h : first_fault p ≡ None) (x : Name) (clear : AllClear (declarations (events (steps p))) x) where
+module _ (p : Tree) (h : first_fault p ≡ None) (numbered : IsNumbered p.root) (x : Name) (clear : AllClear (declarations (events (steps p))) x) where
   abbrev final : State
   final = run start (events (steps p))
 
@@ -39,7 +40,7 @@ module _ (p : Tree) (h : first_fault p ≡ None) (x : Name) (clear : AllClear (d
   led = events_led (nearest p) (table_of p) (nearest_root p f.root) (root_body p f) (written_declarations (steps p)) (steps p) (steps_in p f) (places_near p)
 
   pub clear_at_last : ClearState (table_of p) (nearest p) (declarations (events (steps p))) x final
-  clear_at_last = clear_in_end (table_of p) (nearest p) (declarations (events (steps p))) x (events (steps p)) (orderly_events p f) (sound_start (table_of p)) clear (λ d a. a) led
+  clear_at_last = clear_in_end (table_of p) (nearest p) (declarations (events (steps p))) x (events (steps p)) (orderly_events p f) (sound_start (table_of p)) clear (λ d a. a) led (made_once p h numbered)
 
   end_alike : (c : ℕ) → c < length (scopes (steps p)) → SeenAlike (bound_in_end p c x) (bound_by_all (filter (is_in_scope c x) (made_of p)))
   end_alike c l = subst (λ o. SeenAlike o (bound_by_all (filter (is_in_scope c x) (made_of p)))) (sym (ap (option_map (seen_with_flags (tables_of p))) (bound_as p c x l) ∙ by (get final.bindings c x))) (clear_at_last.counted c)

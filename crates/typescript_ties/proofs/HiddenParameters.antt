@@ -52,7 +52,7 @@ use Rattle.typescript_ties.proofs.HeadPlaces.{AreDeep, CommonStep, common_places
 use Rattle.typescript_ties.proofs.LikeFlags.{SeenAlike}
 use Rattle.typescript_ties.proofs.MergedBlocks.{opened_node}
 use Rattle.typescript_ties.proofs.PastParameters.{is_parameter_named, is_past_parameter, AsksPastNoParameter}
-use Rattle.typescript_ties.proofs.ScopeOpeners.{root_opener}
+use Rattle.binding_laws.proofs.ScopeOpeners.{root_opener}
 use Rattle.typescript_ties.proofs.SimpleDeclarations.{flat_among, of_language, made_so, clear_state}
 use Rattle.typescript_ties.proofs.UndeclaredFree.{each_among}
 

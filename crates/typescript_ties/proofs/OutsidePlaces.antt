@@ -13,7 +13,7 @@ use Rattle.semantic_model.specs.Place.{Place, OpenScope, outside}
 use Rattle.semantic_model.specs.Step.{child_place, child_scopes}
 use Rattle.semantic_model.proofs.form.Clauses.{kind_is}
 use Rattle.typescript_ties.specs.Containers.{Container, outside_function, containers_by, containers}
-use Rattle.typescript_ties.proofs.ChildChains.{ChainOf, outer_chain, inner_chain, OwnOf, chain_of}
+use Rattle.binding_laws.proofs.ChildChains.{ChainOf, outer_chain, inner_chain, OwnOf, chain_of}
 use Rattle.typescript_ties.proofs.ChildPlaces.{same_truth}
 use Rattle.typescript_ties.proofs.ParameterLists.{is_parameter_kind, is_list_kind, has_parameters, tells_decorator, stands_in_list, stands_deeper, tells_parameters, AllBefore, outside_is}
 

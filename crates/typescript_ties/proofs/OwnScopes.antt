@@ -17,10 +17,16 @@ use Rattle.semantic_model.proofs.steps.EachStep.{each_of_node, each_of_turn}
 use Rattle.semantic_model.proofs.steps.OpenedFrom.{OpenedFrom, OpenedRound, opened_left, opened_round}
 use Rattle.semantic_model.proofs.steps.Turn.{Turn, turn_at}
 use Rattle.semantic_model.proofs.steps.TurnCases.{ending_case}
-use Rattle.typescript_ties.proofs.ScopeOpeners.{openers, IsOpened, opened_at}
+use Rattle.binding_laws.proofs.ScopeOpeners.{openers, IsOpened, AllOpened, opened_at}
 
 never : true ≡ false → ⊥
 never h = absurd cc
+
+-- a scope of the chain
+pub among_opened : (table : List ℕ) (chain : List OpenScope) (z : OpenScope) → AllOpened table chain → Among z chain → IsOpened table z
+among_opened table [] z o a = absurd a
+among_opened table (s ∷ ss) z o (inl e) = subst (IsOpened table) e o.0
+among_opened table (s ∷ ss) z o (inr a) = among_opened table ss z o.1 a
 
 module _ (all : List Step) (table : List ℕ) where
   abbrev IsOpenedAs : ℕ → Place → OpenScope → Type 0

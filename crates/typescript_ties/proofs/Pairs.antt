@@ -23,11 +23,12 @@ use Rattle.semantic_model.specs.Place as place
 use Rattle.semantic_model.specs.Place.{Place, OpenScope, innermost}
 use Rattle.semantic_model.specs.ScopeKind.{opened_scope}
 use Rattle.semantic_model.specs.Step.{entering, steps}
+use Rattle.binding_laws.specs.SeenDeclarations.{is_own_name}
 use Rattle.std.proofs.lemmas.List.{append-nil, map-append}
 use denote.Enum.Bare.{same_true}
 use Rattle.typescript_ties.specs.contracts.container_kind.ContainerKind.{the_type as the_container_kinds}
 use Rattle.typescript_ties.specs.declared.container_kind.ContainerKind.{ContainerKind}
-use Rattle.typescript_ties.specs.Containers.{Container, is_container, same_container_kind, same_container, container_of, bound_container, is_exported_under, containers_by}
+use Rattle.typescript_ties.specs.Containers.{Container, is_container, same_container_kind, same_container, container_of, bound_container, is_exported_under, is_of_signature, containers_by}
 use Rattle.typescript_ties.specs.DeclaredNames.{told_to_tables, told_by_language}
 use Rattle.typescript_ties.specs.MeaningSets.{sort_meanings}
 use Rattle.typescript_ties.specs.NamedDeclarations.{same_sort, NamedDeclaration, named_declaration, global_besides, declared_here, imported_as, from_first_taking, declared_outward, variables_named, leaves_its_block, namespace_sort, first_condition, named_by_node}
@@ -42,7 +43,8 @@ use Rattle.typescript_ties.proofs.KnownPlaces.{is_bare_rest}
 use Rattle.typescript_ties.proofs.LikeFlags.{IsVariable}
 use Rattle.typescript_ties.proofs.VarPlaces.{is_statement_kind}
 use Rattle.typescript_ties.proofs.VarRoutes.{TakesIn, StandsWell}
-use Rattle.typescript_ties.proofs.ScopeOpeners.{openers, IsOpened, AllOpened, among_opened}
+use Rattle.binding_laws.proofs.ScopeOpeners.{openers, IsOpened, AllOpened}
+use Rattle.typescript_ties.proofs.OwnScopes.{among_opened}
 use Rattle.typescript_ties.proofs.SimpleOnes.{sort_is_simple, is_not_apart}
 use Rattle.typescript_ties.proofs.Unheaded.{is_unheaded}
 
@@ -57,7 +59,14 @@ map_among g [] x a = absurd a
 map_among g (z ∷ xs) x (inl e) = inl (ap g e)
 map_among g (z ∷ xs) x (inr a) = inr (map_among g xs x a)
 
--- the flags of a sort
+-- the flags mean what the sort does
+pub record HasMeanings (k : DeclarationSort) (flags : ℕ) : Type 0 where
+  pub value : meets flags symbol.ByValueAsType.bits ≡ (sort_meanings k).value
+  pub is_type : meets flags symbol.ByType.bits ≡ (sort_meanings k).is_type
+  pub namespace : meets flags symbol.AsNamespace.bits ≡ (sort_meanings k).namespace
+  pub parameter : (not (same_sort k sort.Parameter) || meets flags symbol.FunctionScopedVariable.bits) ≡ true
+
+-- and are no function expression's
 pub record FlagsAre (k : DeclarationSort) (flags : ℕ) : Type 0 where
   pub value : meets flags symbol.ByValueAsType.bits ≡ (sort_meanings k).value
   pub is_type : meets flags symbol.ByType.bits ≡ (sort_meanings k).is_type
@@ -65,16 +74,26 @@ pub record FlagsAre (k : DeclarationSort) (flags : ℕ) : Type 0 where
   pub no_own : meets flags symbol.FunctionExpression.bits ≡ false
   pub parameter : (not (same_sort k sort.Parameter) || meets flags symbol.FunctionScopedVariable.bits) ≡ true
 
+meanings_of : (k : DeclarationSort) (flags : ℕ) → FlagsAre k flags → HasMeanings k flags
+meanings_of k flags f = record { value = f.value; is_type = f.is_type; namespace = f.namespace; parameter = f.parameter }
+
 module _ (p : Tree) where
   abbrev s : SourceType
   s = p.source_type
+
+  -- the scope of a function is seen from its header, or has its own name
+  pub record IsSeenHeaded (w : Declaration) : Type 0 where
+    pub place : Place
+    pub entered : Among (entering place) (steps p)
+    pub opener : w.route.target.opener ≡ place.node.node_id
+    pub header : is_function place.node.kind ≡ true → (w.route.target.in_header || is_own_name w) ≡ true
 
   -- the declaration goes where the container is
   pub record IsAtHome (w : Declaration) (n : NamedDeclaration) : Type 0 where
     pub opener : w.route.target.opener ≡ n.container.node
     pub lasting : w.route.target.body ≡ None
     pub in_body : is_container container.Body n.container ≡ true → w.route.target.in_header ≡ false
-    pub in_header : is_of_header n.container ≡ true → IsHeaded p w.route.target
+    pub in_header : is_of_header n.container ≡ true → IsSeenHeaded w
     pub unheaded : (sort_meanings n.sort).namespace ≡ true → w.route.target.in_header ≡ false
     pub origin : HasOrigin p n.container
     pub opened : IsOpened (openers (steps p)) w.route.target
@@ -93,7 +112,8 @@ module _ (p : Tree) where
 
   pub record IsSimplePair (w : Declaration) (n : NamedDeclaration) : Type 0 where
     pub how : WayOf w n
-    pub flags : FlagsAre n.sort w.naming.flags
+    pub flags : HasMeanings n.sort w.naming.flags
+    pub own : (is_own_name w ≡ false) ⊎ ((n.sort ≡ sort.FunctionName) × (is_container container.OwnName n.container ≡ true))
     pub home : IsAtHome w n
     pub also : (c : Container) → same_container_kind container.Globals c.kind ≡ false → list_any (λ e. same_container e c) n.also ≡ false
 
@@ -168,17 +188,20 @@ module _ (p : Tree) where
           opener = ap (λ o. o.opener) t ∙ h.opener b free ∙ ap (λ c. c.node) (sym e);
           lasting = ap (λ o. o.body) t ∙ h.lasting b free;
           in_body = λ i. ap (λ o. o.in_header) t ∙ h.in_body b (subst (λ c. is_container container.Body c ≡ true) e i);
-          in_header = λ i. subst (IsHeaded p) (sym t) (h.in_header b (subst (λ c. is_of_header c ≡ true) e i));
+          in_header = λ i. headed (subst (IsHeaded p) (sym t) (h.in_header b (subst (λ c. is_of_header c ≡ true) e i)));
           unheaded = λ i. ap (λ o. o.in_header) t ∙ k.unheaded (u i);
           opened = subst (IsOpened (openers (steps p))) (sym t) head_opened;
           origin = origin_of n.container a (h.origin n.container (subst (λ c. Among c cs) (sym e) (h.among b free)));
         }
+      where
+        headed : IsHeaded p w.route.target → IsSeenHeaded w
+        headed g = record { place = g.place; entered = g.entered; opener = g.opener; header = λ f. ap (λ t. t || is_own_name w) (g.header f) }
 
     pair_here : (flags excluded : ℕ) (pure : Bool) (j : DeclarationSort) (b : Bool) (also : List Container) → IsUnheaded j → FlagsAre j flags → ((c : Container) → same_container_kind container.Globals c.kind ≡ false → list_any (λ e. same_container e c) also ≡ false) → (id : Node)
         → IsPair (declaration_at q.node (record { flags = flags; excluded = excluded; how = plain; route = here q.chain }) pure id) (named_declaration j (bound_container b cs) also id)
     pair_here flags excluded pure j b also u f g id = record {
       told = refl;
-      simple = λ e. record { how = stays refl; flags = f; home = at_head (declaration_at q.node (record { flags = flags; excluded = excluded; how = plain; route = here q.chain }) pure id) (named_declaration j (bound_container b cs) also id) b refl refl (not_apart (named_declaration j (bound_container b cs) also id) e) u; also = g };
+      simple = λ e. record { how = stays refl; flags = meanings_of j flags f; own = inl f.no_own; home = at_head (declaration_at q.node (record { flags = flags; excluded = excluded; how = plain; route = here q.chain }) pure id) (named_declaration j (bound_container b cs) also id) b refl refl (not_apart (named_declaration j (bound_container b cs) also id) e) u; also = g };
     }
 
     nothing_else : (c : Container) → same_container_kind container.Globals c.kind ≡ false → list_any (λ e. same_container e c) [] ≡ false
@@ -206,16 +229,20 @@ module _ (p : Tree) where
 
     -- declared in the scope that the node opens
     own_home : (w : Declaration) (n : NamedDeclaration) → w.route.target ≡ own → n.container.node ≡ q.node.node_id → Among n.container (containers_by q.node.kind s q.node q.path cs q.node) → opens q.node.kind ≡ true → same_kind q.node.kind kind.CatchClause ≡ false
-        → is_container container.Body n.container ≡ false → (is_of_header n.container ≡ true → is_function q.node.kind ≡ false) → (sort_meanings n.sort).namespace ≡ false → IsAtHome w n
-    own_home w n t at among o no_clause no_body no_function typed = record {
+        → is_container container.Body n.container ≡ false → (is_function q.node.kind ≡ true → is_own_name w ≡ true) → (sort_meanings n.sort).namespace ≡ false → IsAtHome w n
+    own_home w n t at among o no_clause no_body named typed = record {
       opener = ap (λ z. z.opener) t ∙ sym at;
       lasting = ap (λ z. z.body) t ∙ ap (λ b. cond b (body_number (suc count) q.node.children) None) no_clause;
       in_body = λ i. absurd (never (sym i ∙ no_body));
-      in_header = λ i. record { place = q; entered = entered; opener = ap (λ z. z.opener) t; header = λ j. absurd (never (sym j ∙ no_function i)) };
+      in_header = λ i. record { place = q; entered = entered; opener = ap (λ z. z.opener) t; header = λ j. or_own w.route.target.in_header (named j) };
       unheaded = λ i. absurd (never (sym i ∙ typed));
       opened = subst (IsOpened (openers (steps p))) (sym t) (own_opened o);
       origin = record { place = q; entered = entered; child = q.node; among = among; stands = at };
     }
+      where
+        or_own : (a : Bool) → is_own_name w ≡ true → (a || is_own_name w) ≡ true
+        or_own true i = refl
+        or_own false i = i
 
     -- of a sort that isn't simple
     unsimple : (w : Declaration) (n : NamedDeclaration) → is_simple_sort n.sort ≡ false → told_to_tables w ≡ told_by_language n → IsPair w n
@@ -343,7 +370,8 @@ module _ (p : Tree) where
         told = refl;
         simple = λ e. record {
           how = goes_out refl (has mark.Declare declaration, refl) refl q entered a passed_as;
-          flags = variable_are (has mark.Declare declaration);
+          flags = meanings_of sort.Var (union symbol.FunctionScopedVariable.bits (marked_ambient declaration)) (variable_are (has mark.Declare declaration));
+          own = inl (variable_are (has mark.Declare declaration)).no_own;
           home = var_home id;
           also = beside (bound_container exported (from_first_taking cs));
         };
@@ -412,9 +440,33 @@ module _ (p : Tree) where
     not_moved : is_block_function q ≡ false
     not_moved = blocked (not (is_special q.node)) (is_typescript q.source_type) (not (place.is_strict q.chain)) (not (is_var (innermost q.chain) || is_clause (innermost q.chain))) (ap is_typescript k.source ∙ typed)
 
-    function_pairs : Paired kind.Function
-    function_pairs = go (is_statement q.node) refl
+    function_pairs : q.node.kind ≡ kind.Function → Paired kind.Function
+    function_pairs e = go (is_statement q.node) refl
       where
+        own_name : Node → NamedDeclaration
+        own_name = named_declaration sort.FunctionName (container_of container.OwnName q.node) []
+
+        own_among : (t u : Bool) → Among (container_of container.OwnName q.node) (cond t [] (container_of container.Body q.node ∷ []) ++ (cond u [] (container_of container.Parameters q.node ∷ []) ++ container_of container.TypeParameters q.node ∷ []) ++ container_of container.OwnName q.node ∷ [])
+        own_among true true = inr (inl refl)
+        own_among true false = inr (inr (inl refl))
+        own_among false true = inr (inr (inl refl))
+        own_among false false = inr (inr (inr (inl refl)))
+
+        among : Among (container_of container.OwnName q.node) (containers_by q.node.kind s q.node q.path cs q.node)
+        among = subst (λ j. Among (container_of container.OwnName q.node) (containers_by j s q.node q.path cs q.node)) (sym e) (own_among (is_of_signature q.node) (is kind.TSTypeParameterDeclaration q.node))
+
+        own_flags : (a t : Bool) → HasMeanings sort.FunctionName (union (union symbol.Function.bits (ambient_if a)) (union symbol.FunctionExpression.bits (cond t symbol.AsyncOrGeneratorFunction.bits 0)))
+        own_flags true true = record { value = refl; is_type = refl; namespace = refl; parameter = refl }
+        own_flags true false = record { value = refl; is_type = refl; namespace = refl; parameter = refl }
+        own_flags false true = record { value = refl; is_type = refl; namespace = refl; parameter = refl }
+        own_flags false false = record { value = refl; is_type = refl; namespace = refl; parameter = refl }
+
+        is_own : (a t : Bool) → meets (union (union symbol.Function.bits (ambient_if a)) (union symbol.FunctionExpression.bits (cond t symbol.AsyncOrGeneratorFunction.bits 0))) symbol.FunctionExpression.bits ≡ true
+        is_own true true = refl
+        is_own true false = refl
+        is_own false true = refl
+        is_own false false = refl
+
         far : Node → NamedDeclaration
         far = declared_outward sort.BlockFunction s q.node q.path
 
@@ -441,10 +493,19 @@ module _ (p : Tree) where
         go : (b : Bool) → is_statement q.node ≡ b
             → AllPairs (cond b [] (map (declaration_at q.node (record { flags = flags_by b; excluded = function_excluded q; how = plain; route = here (own ∷ []) }) pure) (ids q.node)) ++ cond b (map (declaration_at q.node (row_by b (is_block_function q)) pure) (ids q.node)) [])
             (map (cond b (cond (leaves_its_block s q.node q.path) far near) (named_declaration sort.FunctionName (container_of container.OwnName q.node) [])) (ids q.node))
-        go true e = declared (is_block_function q) not_moved
-        go false e =
+        go true i = declared (is_block_function q) not_moved
+        go false i =
             let w : Node → Declaration = declaration_at q.node (record { flags = flags_by false; excluded = function_excluded q; how = plain; route = here (own ∷ []) }) pure in
-            map_pairs_last w (named_declaration sort.FunctionName (container_of container.OwnName q.node) []) (ids q.node) (λ id. unsimple (w id) (named_declaration sort.FunctionName (container_of container.OwnName q.node) [] id) refl refl)
+            map_pairs_last w own_name (ids q.node) (λ id. record {
+              told = refl;
+              simple = λ i. record {
+                how = stays refl;
+                flags = own_flags (has mark.Declare q.node) (is_special q.node);
+                own = inr (refl, refl);
+                home = own_home (w id) (own_name id) refl refl among (ap opens e) (ap (λ j. same_kind j kind.CatchClause) e) refl (λ j. is_own (has mark.Declare q.node) (is_special q.node)) refl;
+                also = nothing_else;
+              };
+            })
 
     class_pairs : q.node.kind ≡ kind.Class → Paired kind.Class
     class_pairs e = go (is_statement q.node)
@@ -461,15 +522,15 @@ module _ (p : Tree) where
             (subst (λ b. Among (container_of container.OwnName q.node) (cond b [] (container_of container.TypeParameters q.node ∷ container_of container.OwnName q.node ∷ []))) (sym (ap (λ j. same_kind kind.Decorator j || false) e)) (inr (inl refl)))
 
         home : (id : Node) → IsAtHome (own_class id) (own_name id)
-        home id = own_home (own_class id) (own_name id) refl refl among (ap opens e) (ap (λ j. same_kind j kind.CatchClause) e) refl (λ i. ap is_function e) refl
+        home id = own_home (own_class id) (own_name id) refl refl among (ap opens e) (ap (λ j. same_kind j kind.CatchClause) e) refl (λ i. absurd (never (sym i ∙ ap is_function e))) refl
 
         go : (b : Bool) → AllPairs (cond b [] (map (declaration_at q.node (class_row q (own ∷ [])) false) (ids q.node)) ++ cond b (map (declaration_at q.node (class_row q q.chain) false) (ids q.node)) [])
             (map (cond b (declared_here sort.Class s q.node q.path) own_name) (ids q.node))
         go true = map_pairs (declaration_at q.node (class_row q q.chain) false) (declared_here sort.Class s q.node q.path) (ids q.node) (λ id. sort_here (union symbol.Class.bits (marked_ambient q.node)) symbol.ClassExcludes.bits false sort.Class (no_namespace (is_unheaded q.node.kind)) (class_are (has mark.Declare q.node)) id)
-        go false = map_pairs_last (declaration_at q.node (class_row q (own ∷ [])) false) own_name (ids q.node) (λ id. record { told = refl; simple = λ i. record { how = stays refl; flags = class_name_are (has mark.Declare q.node); home = home id; also = nothing_else } })
+        go false = map_pairs_last (declaration_at q.node (class_row q (own ∷ [])) false) own_name (ids q.node) (λ id. record { told = refl; simple = λ i. record { how = stays refl; flags = meanings_of sort.ClassName (union symbol.Class.bits (marked_ambient q.node)) (class_name_are (has mark.Declare q.node)); own = inl (class_name_are (has mark.Declare q.node)).no_own; home = home id; also = nothing_else } })
 
     mapped_pairs : q.node.kind ≡ kind.TSMappedType → Paired kind.TSMappedType
-    mapped_pairs e = map_pairs_last w key (names_at role.Key q.node) (λ id. record { told = refl; simple = λ i. record { how = stays refl; flags = key_are; home = home id; also = nothing_else } })
+    mapped_pairs e = map_pairs_last w key (names_at role.Key q.node) (λ id. record { told = refl; simple = λ i. record { how = stays refl; flags = meanings_of sort.MappedKey symbol.TypeParameter.bits key_are; own = inl refl; home = home id; also = nothing_else } })
       where
         w : Node → Declaration
         w = declaration_at q.node (type_parameter_row (here (own ∷ []))) false
@@ -478,7 +539,7 @@ module _ (p : Tree) where
         key = named_declaration sort.MappedKey (container_of container.TypeParameters q.node) []
 
         home : (id : Node) → IsAtHome (w id) (key id)
-        home id = own_home (w id) (key id) refl refl (subst (λ j. Among (container_of container.TypeParameters q.node) (containers_by j s q.node q.path cs q.node)) (sym e) (inl refl)) (ap opens e) (ap (λ j. same_kind j kind.CatchClause) e) refl (λ i. ap is_function e) refl
+        home id = own_home (w id) (key id) refl refl (subst (λ j. Among (container_of container.TypeParameters q.node) (containers_by j s q.node q.path cs q.node)) (sym e) (inl refl)) (ap opens e) (ap (λ j. same_kind j kind.CatchClause) e) refl (λ i. absurd (never (sym i ∙ ap is_function e))) refl
 
     import_pairs : is_unheaded q.node.kind ≡ true → Paired kind.ImportSpecifier
     import_pairs u = go (has mark.TypeOnly q.node || place.parent_holds (has mark.TypeOnly) q.path)
@@ -538,7 +599,7 @@ module _ (p : Tree) where
 
     pub pairs_by : (j : AstType) → q.node.kind ≡ j → same_kind j kind.TSIndexSignatureName ≡ false → is_bare_rest q.node q.path ≡ false → (q.path ≡ [] → q.node.kind ≡ kind.Program) → Paired j
     pairs_by kind.VariableDeclarator e i r u = variable_pairs q.path e refl
-    pairs_by kind.Function e i r u = function_pairs
+    pairs_by kind.Function e i r u = function_pairs e
     pairs_by kind.Class e i r u = class_pairs e
     pairs_by kind.FormalParameter e i r u = parameter_pairs q.path (not_root kind.FormalParameter e (λ z. absurd cc) u)
     pairs_by kind.FormalParameterRest e i r u = parameter_pairs q.path (not_root kind.FormalParameterRest e (λ z. absurd cc) u)

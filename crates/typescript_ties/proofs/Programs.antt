@@ -6,7 +6,7 @@ use Rattle.semantic_kinds.specs.declared.kind.AstType.TheVariants as kind
 use Rattle.semantic_kinds.specs.declared.role.Role.TheVariants as role
 use Rattle.semantic_kinds.specs.declared.mark.Mark.TheVariants as mark
 use Rattle.semantic_tree.specs.Tree.{Tree}
-use Rattle.tangle_model.proofs.ProgramTrees.{marked, node, program, binding, block, declared, function, function_body, mention, namespace, number, parameters, reference}
+use Rattle.tangle_model.proofs.ProgramTrees.{marked, node, program, binding, block, declared, variable, statement, in_parentheses, function, function_body, named_expression, mention, namespace, number, parameters, reference}
 
 -- `export {}; namespace N { export type T = number } let x: N.T;`
 abbrev pub qualified : Tree
@@ -475,6 +475,31 @@ passed_types =
     (binding role.Id (codes "b")
     ∷ node role.Annotation kind.TSTypeAnnotation [] (node role.Element kind.TSTypeReference [] (reference role.Name (codes "a") ∷ []) ∷ [])
     ∷ [])
+    ∷ [])
+
+-- `export {}; let f; (function f() { f; });`
+abbrev pub own_names : Tree
+own_names =
+    program goal.Module lang.Ts
+    (node role.Body kind.ExportNamedDeclaration [] []
+    ∷ variable (codes "let") (codes "f")
+    ∷ statement (in_parentheses role.Expression (named_expression role.Expression (codes "f") [] (mention (codes "f") ∷ [])))
+    ∷ [])
+
+-- `export {}; let f; (function f<f>() { f; });`
+abbrev pub own_types : Tree
+own_types =
+    program goal.Module lang.Ts
+    (node role.Body kind.ExportNamedDeclaration [] []
+    ∷ variable (codes "let") (codes "f")
+    ∷ statement
+    (in_parentheses role.Expression
+    (node role.Expression kind.Function (codes "expression")
+    (binding role.Id (codes "f")
+    ∷ node role.TypeParameters kind.TSTypeParameterDeclaration [] (node role.Params kind.TSTypeParameter [] (binding role.Name (codes "f") ∷ []) ∷ [])
+    ∷ parameters []
+    ∷ function_body (mention (codes "f") ∷ [])
+    ∷ [])))
     ∷ [])
 
 -- `export {}; let a = 1; class C { m(@a a: 1) { a; } }`

@@ -8,7 +8,7 @@ use Rattle.tangle_model.specs.declared.reason.Reason.TheVariants as reason
 use Rattle.typescript_ties.specs.Resolved.{Resolved, nowhere, declared_in, ResolvedUse, resolved_uses}
 use Rattle.typescript_ties.specs.ResolvedTies.{parting_uses}
 use Rattle.typescript_ties.specs.TriedNames.{is_simple_name}
-use Rattle.typescript_ties.proofs.Programs.{qualified, merged_namespaces, merged_enums, typed_export, exported_namespace, generics, generic_class, overloads, typed_imports, infers, mapped, queries, ambient, sloppy_blocks, strict_blocks, local_types, equated, typed_export_inside, index_parameters, hoisted_names, passed_types, decorated_parameters}
+use Rattle.typescript_ties.proofs.Programs.{qualified, merged_namespaces, merged_enums, typed_export, exported_namespace, generics, generic_class, overloads, typed_imports, infers, mapped, queries, ambient, sloppy_blocks, strict_blocks, local_types, equated, typed_export_inside, index_parameters, hoisted_names, passed_types, own_names, own_types, decorated_parameters}
 
 abbrev identifiers_of : Resolved → List ℕ
 identifiers_of nowhere = []
@@ -254,6 +254,28 @@ passed_types_a_untangled : tangle_reasons passed_types (codes "a") ≡ []
 unfolding encode chars
 passed_types_a_untangled = refl
 
+-- a function expression has its name inside of it
+own_names_meant : map meant_identifiers (resolved_uses own_names) ≡ (12, 8 ∷ []) ∷ []
+unfolding encode chars
+own_names_meant = refl
+
+own_names_f_agrees : parting_uses own_names (codes "f") ≡ []
+unfolding encode chars
+own_names_f_agrees = refl
+
+-- and beside a type of that name, which hides it in the tables
+own_types_meant : map meant_identifiers (resolved_uses own_types) ≡ (15, 8 ∷ []) ∷ []
+unfolding encode chars
+own_types_meant = refl
+
+own_types_f_parts : parting_uses own_types (codes "f") ≡ 15 ∷ []
+unfolding encode chars
+own_types_f_parts = refl
+
+own_types_f_untangled : tangle_reasons own_types (codes "f") ≡ []
+unfolding encode chars
+own_types_f_untangled = refl
+
 -- a decorator of a parameter stands outside of the method
 decorated_parameters_meant : map meant_identifiers (resolved_uses decorated_parameters) ≡ (15, 4 ∷ []) ∷ (22, 16 ∷ []) ∷ []
 unfolding encode chars
@@ -328,6 +350,14 @@ generics_T_simple = refl
 passed_types_a_not_simple : is_simple_name passed_types (codes "a") ≡ false
 unfolding encode chars
 passed_types_a_not_simple = refl
+
+own_names_f_simple : is_simple_name own_names (codes "f") ≡ true
+unfolding encode chars
+own_names_f_simple = refl
+
+own_types_f_not_simple : is_simple_name own_types (codes "f") ≡ false
+unfolding encode chars
+own_types_f_not_simple = refl
 
 infers_U_not_simple : is_simple_name infers (codes "U") ≡ false
 unfolding encode chars

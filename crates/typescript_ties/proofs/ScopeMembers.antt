@@ -24,6 +24,7 @@ use Rattle.semantic_model.specs.Step.{entering, steps}
 use Rattle.semantic_model.proofs.once.ListedUnder.{name_tells}
 use Rattle.semantic_model.specs.TablesOf.{made_of}
 use Rattle.binding_laws.specs.SeenDeclarations.{is_own_name, stands_before_body, is_before_body}
+use Rattle.binding_laws.proofs.EnteredOnce.{entered_once}
 use Rattle.typescript_ties.specs.Containers.{Container, MemberPath, same_container_kind, same_names, same_members, same_container, is_container, is_of_signature, containers_by}
 use Rattle.typescript_ties.specs.NamedDeclarations.{NamedDeclaration, named_in}
 use Rattle.typescript_ties.specs.Resolved.{has_declared}
@@ -33,11 +34,10 @@ use Rattle.typescript_ties.specs.declared.container_kind.ContainerKind.{Containe
 use Rattle.typescript_ties.specs.declared.container_kind.ContainerKind.TheVariants as container
 use Rattle.typescript_ties.specs.declared.declaration_sort.DeclarationSort.TheVariants as sort
 use Rattle.typescript_ties.proofs.ChildPlaces.{same_truth, is_function, tells_inside, told_by_kind, tells_header}
-use Rattle.typescript_ties.proofs.EnteredOnce.{entered_once}
 use Rattle.typescript_ties.proofs.Groups.{GroupMember, member_of}
-use Rattle.typescript_ties.proofs.HeadPlaces.{IsHeaded, HasOrigin, IsCommonPlace, round_place}
-use Rattle.typescript_ties.proofs.Pairs.{container_kind_is}
-use Rattle.typescript_ties.proofs.ScopeOpeners.{openers, IsOpened, one_scope}
+use Rattle.typescript_ties.proofs.HeadPlaces.{HasOrigin, IsCommonPlace, round_place}
+use Rattle.typescript_ties.proofs.Pairs.{container_kind_is, IsSeenHeaded}
+use Rattle.binding_laws.proofs.ScopeOpeners.{openers, IsOpened, one_scope}
 use Rattle.typescript_ties.proofs.SimpleOnes.{is_not_apart, is_parameter}
 use Rattle.typescript_ties.proofs.SimpleDeclarations.{IsBoth, of_tables, of_language, of_made, made_so}
 
@@ -157,7 +157,7 @@ module _ (p : Tree) (h : first_fault p ≡ None) (common : is_common p ≡ true)
         record {
           named = n;
           both = both;
-          there = in_or_hidden n (simply.each n both.named both.named_so) (sym both.pair.home.opener ∙ same ∙ opener) both.pair.home.origin (λ i. not_headed s.in_header f.1 (both.pair.home.in_body i) both.pair.flags.no_own);
+          there = in_or_hidden n (simply.each n both.named both.named_so) (sym both.pair.home.opener ∙ same ∙ opener) both.pair.home.origin (λ i. not_headed s.in_header f.1 (both.pair.home.in_body i) (in_no_body m n both i));
           has = and_from (bytes_eq n.name x) (same_container n.container n.container || list_any (λ d. same_container d n.container) n.also) (elim (name_tells n.name x) [ inl j ↦ j.0 | inr j ↦ absurd (j.1 both.named_so) ]) (ap (λ b. b || list_any (λ d. same_container d n.container) n.also) (container_self n.container));
           number = number;
           name = f.0;
@@ -165,6 +165,12 @@ module _ (p : Tree) (h : first_fault p ≡ None) (common : is_common p ≡ true)
       where
         one_opener : (a b : ℕ) → Some a ≡ Some b → a ≡ b
         one_opener a b i = cc
+
+        in_no_body : (m : Made) (n : NamedDeclaration) → Both m.declaration n → is_container container.Body n.container ≡ true → is_own_name m.declaration ≡ false
+        in_no_body m n both i = elim both.pair.own [
+          | inl e ↦ e
+          | inr (is_name, at) ↦ absurd (let z : container.Body ≡ container.OwnName = sym (container_kind_is n.container.kind container.Body i) ∙ container_kind_is n.container.kind container.OwnName at in absurd cc)
+        ]
 
         not_headed : (b : Bool) → (b ≡ true → (m.declaration.route.target.in_header || is_own_name m.declaration) ≡ true) → m.declaration.route.target.in_header ≡ false → is_own_name m.declaration ≡ false → b ≡ false
         not_headed false f i j = refl
@@ -211,7 +217,7 @@ module _ (p : Tree) (h : first_fault p ≡ None) (common : is_common p ≡ true)
         same_or_true false v i j = absurd (never (sym j))
 
         -- the scope of a function is seen from its header
-        into_header : (w : Declaration) → w.route.target.opener ≡ n.container.node → n.container.node ≡ q.node.node_id → IsHeaded p w.route.target → (is_function q.node.kind ≡ true) ⊎ (same_kind q.node.kind kind.CatchClause ≡ true) → (d : Container) → Among d group → is_apart d.kind ≡ false → w.route.target.in_header ≡ true
+        into_header : (w : Declaration) → w.route.target.opener ≡ n.container.node → n.container.node ≡ q.node.node_id → IsSeenHeaded p w → (is_function q.node.kind ≡ true) ⊎ (same_kind q.node.kind kind.CatchClause ≡ true) → (d : Container) → Among d group → is_apart d.kind ≡ false → (w.route.target.in_header || is_own_name w) ≡ true
         into_header w o i g (inl f) d b free =
             let place : g.place ≡ q = entered_once p numbered g.place q g.entered entered (sym g.opener ∙ o ∙ i) in
             g.header (subst (λ (z : Place). is_function z.node.kind ≡ true) (sym place) f)
@@ -222,6 +228,6 @@ module _ (p : Tree) (h : first_fault p ≡ None) (common : is_common p ≡ true)
             no_clause kind.CatchClause f d (inr e) free = e
             no_clause _ f d b free = never (sym f)
 
-        by : (b : Bool) → s.in_header ≡ b → (w : Declaration) → w.route.target.number ≡ s.number → w.naming.name ≡ x → (s.in_header ≡ true → w.route.target.in_header ≡ true) → (y : ℕ) → is_seen_from s x (record { declaration = w; symbol = y }) ≡ true
-        by true e w i j f y = rw e (and_from (stands_before_body s.number w) (bytes_eq w.naming.name x) (and_from (w.route.target.number == s.number) (w.route.target.in_header || is_own_name w) (eq-eqb w.route.target.number s.number i) (ap (λ t. t || is_own_name w) (f e))) (elim (name_tells w.naming.name x) [ inl z ↦ z.0 | inr z ↦ absurd (z.1 j) ]))
+        by : (b : Bool) → s.in_header ≡ b → (w : Declaration) → w.route.target.number ≡ s.number → w.naming.name ≡ x → (s.in_header ≡ true → (w.route.target.in_header || is_own_name w) ≡ true) → (y : ℕ) → is_seen_from s x (record { declaration = w; symbol = y }) ≡ true
+        by true e w i j f y = rw e (and_from (stands_before_body s.number w) (bytes_eq w.naming.name x) (and_from (w.route.target.number == s.number) (w.route.target.in_header || is_own_name w) (eq-eqb w.route.target.number s.number i) (f e)) (elim (name_tells w.naming.name x) [ inl z ↦ z.0 | inr z ↦ absurd (z.1 j) ]))
         by false e w i j f y = rw e (and_from (w.route.target.number == s.number) (bytes_eq w.naming.name x) (eq-eqb w.route.target.number s.number i) (elim (name_tells w.naming.name x) [ inl z ↦ z.0 | inr z ↦ absurd (z.1 j) ]))

@@ -29,15 +29,16 @@ use Rattle.semantic_model.proofs.form.Shape.{has_form}
 use Rattle.semantic_model.proofs.lists.Members.{among_left, among_right, among_last, among_cases}
 use Rattle.program_laws.proofs.DeclaredNodes.{among_flat}
 use Rattle.semantic_model.specs.TablesOf.{made_of}
+use Rattle.binding_laws.specs.SeenDeclarations.{is_own_name}
 use Rattle.typescript_ties.specs.DeclaredNames.{told_to_tables, told_by_language}
 use Rattle.typescript_ties.specs.NamedDeclarations.{NamedDeclaration, named_by_node, named_at, named_in}
 use Rattle.typescript_ties.specs.SimpleNames.{is_common, is_simple_sort, is_simple, IsSimplyDeclared}
 use Rattle.typescript_ties.specs.declared.declaration_sort.DeclarationSort.TheVariants as sort
 use Rattle.typescript_ties.proofs.HeadPlaces.{IsCommonPlace, CommonStep, common_places}
 use Rattle.typescript_ties.proofs.KnownPlaces.{IsKnownPlace, KnownStep, known_places}
-use Rattle.typescript_ties.proofs.OwnScopes.{OwnScope, OwnStep, own_program}
+use Rattle.typescript_ties.proofs.OwnScopes.{among_opened, OwnScope, OwnStep, own_program}
 use Rattle.typescript_ties.proofs.Pairs.{IsPassedAs, WayOf, stays, goes_out, IsSimplePair, AllPairs, map_among, pair_of_written, pair_of_named, pairs_by}
-use Rattle.typescript_ties.proofs.ScopeOpeners.{openers, IsOpened, AllOpened, IsPlaceOpened, places_opened, innermost_opened, among_opened}
+use Rattle.binding_laws.proofs.ScopeOpeners.{openers, IsOpened, AllOpened, IsPlaceOpened, places_opened, innermost_opened, root_opener}
 use Rattle.typescript_ties.proofs.ClearFold.{AllClear, ClearState}
 use Rattle.typescript_ties.proofs.ClearTies.{clear_at_last}
 use Rattle.typescript_ties.proofs.LikeFlags.{IsVariable}
@@ -110,7 +111,7 @@ module _ (p : Tree) (h : first_fault p ≡ None) (common : is_common p ≡ true)
   chain_opened q a = each_among (IsPlaceOpened (openers (steps p))) (steps p) (entering q) (places_opened p) a
 
   head_opened : (q : Place) → Among (entering q) (steps p) → IsOpened (openers (steps p)) (innermost q.chain)
-  head_opened q a = innermost_opened p (has_form p h).root numbered q.chain (chain_opened q a)
+  head_opened q a = innermost_opened (openers (steps p)) (root_opener p (has_form p h).root numbered) q.chain (chain_opened q a)
 
   -- the number of a place's scope
   record OwnCount (q : Place) : Type 0 where
@@ -255,14 +256,23 @@ module _ (p : Tree) (h : first_fault p ≡ None) (common : is_common p ≡ true)
   way_clear d n b e (stays how) = inl how
   way_clear d n b e (goes_out how variable is_var q entered at each) = inr (how, (variable, λ o a f. apart n b.named b.named_so is_var q entered at d.route.passed each o a (f ∙ e)))
 
+  -- where it is a function's own, the scope has nothing else
+  own_alone : (d : Declaration) (n : NamedDeclaration) → IsBoth d n → d.naming.name ≡ x → is_own_name d ≡ true → (o : Declaration) → Among o all → o.naming.name ≡ d.naming.name → o.route.target.number ≡ d.route.target.number → o.naming.identifier ≡ d.naming.identifier
+  own_alone d n b e i o a f number = elim b.pair.own [
+    | inl j ↦ absurd (never (sym i ∙ j))
+    | inr (is_name, at) ↦ (let (m, c) = of_tables o a (f ∙ e) in
+        let opener : o.route.target.opener ≡ d.route.target.opener = one_opener o.route.target.opener d.route.target.opener (sym c.opened ∙ ap (slice_get (openers (steps p))) number ∙ b.opened) in
+        ap (λ t. t.identifier) c.told ∙ simply.own n m b.named c.named b.named_so c.named_so is_name (sym c.pair.home.opener ∙ opener ∙ b.pair.home.opener) ∙ sym (ap (λ t. t.identifier) b.told))
+  ]
+
   pub is_clear : AllClear all x
-  is_clear d a e = let (n, b) = of_tables d a e in record { lasting = b.pair.home.lasting; no_own = b.pair.flags.no_own; way = way_clear d n b e b.pair.how }
+  is_clear d a e = let (n, b) = of_tables d a e in record { lasting = b.pair.home.lasting; alone = own_alone d n b e; way = way_clear d n b e b.pair.how }
 
   abbrev final : State
   final = run start (events (steps p))
 
   pub clear_state : ClearState (table_of p) (nearest p) all x final
-  clear_state = clear_at_last p h x is_clear
+  clear_state = clear_at_last p h numbered x is_clear
 
   -- those in one scope have one symbol
   pub one_symbol : (m n : Made) → Among m (made_of p) → Among n (made_of p) → m.declaration.naming.name ≡ x → n.declaration.naming.name ≡ x → m.declaration.route.target.number ≡ n.declaration.route.target.number → m.symbol ≡ n.symbol

@@ -21,7 +21,7 @@ use Rattle.semantic_model.proofs.form.PartsHold.{passed_hold}
 use Rattle.walk_model.proofs.headers.Headed.{bound_inside}
 use Rattle.walk_model.proofs.headers.NoStatements.{loose_kinds, is_bound}
 use Rattle.walk_model.proofs.places.Shapes.{holds_below, tree_holds}
-use Rattle.typescript_ties.proofs.ChildChains.{ChainOf, outer_chain, inner_chain}
+use Rattle.binding_laws.proofs.ChildChains.{ChainOf, outer_chain, inner_chain}
 
 never : true ≡ false → ⊥
 never h = absurd cc

@@ -62,7 +62,7 @@ use Rattle.typescript_ties.proofs.OwnMembers.{own_members}
 use Rattle.typescript_ties.proofs.ClearFold.{ClearState}
 use Rattle.typescript_ties.proofs.ClearTies.{clearly_tied}
 use Rattle.typescript_ties.proofs.LikeFlags.{FlagsAlike, SeenAlike}
-use Rattle.typescript_ties.proofs.ReferredNodes.{IsReferred, is_referred}
+use Rattle.binding_laws.proofs.ReferredNodes.{IsReferred, is_referred}
 use Rattle.typescript_ties.proofs.SimpleDeclarations.{is_clear, clear_state}
 use Rattle.typescript_ties.proofs.UndeclaredFree.{each_among}
 
@@ -301,7 +301,7 @@ module _ (p : Tree) (h : first_fault p ≡ None) (common : is_common p ≡ true)
     w = way_or_read q.cursor
 
     tied_is : referred.entry.symbol_id ≡ looked_up p h common typed numbered x no_arguments name.simply alone_members w q.chain
-    tied_is = clearly_tied p h x (is_clear p h common typed numbered x name.simply) referred.number (reference_at q) referred.entry referred.reference referred.row is_x
+    tied_is = clearly_tied p h numbered x (is_clear p h common typed numbered x name.simply) referred.number (reference_at q) referred.entry referred.reference referred.row is_x
 
     -- it isn't free
     never_free : referred.entry.symbol_id ≡ None → ⊥

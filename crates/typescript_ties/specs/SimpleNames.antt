@@ -34,13 +34,14 @@ is_common_forest (tree r k span text marks below id after) = is_common_child k &
 abbrev pub is_common : Tree → Bool
 is_common p = is_common_forest p.root.children
 
--- by `var`, lexical, a parameter, a type, a class or its own name, an enum or its member, a namespace, an import, a type parameter, the key of a mapped type, or a function that stays where it stands
+-- by `var`, lexical, a parameter, a type, a class, the own name of a function or class, an enum or its member, a namespace, an import, a type parameter, the key of a mapped type, or a function that stays where it stands
 abbrev pub is_simple_sort : DeclarationSort → Bool
 is_simple_sort sort.Var = true
 is_simple_sort sort.Lexical = true
 is_simple_sort sort.Function = true
 is_simple_sort sort.Parameter = true
 is_simple_sort sort.Class = true
+is_simple_sort sort.FunctionName = true
 is_simple_sort sort.ClassName = true
 is_simple_sort sort.Import = true
 is_simple_sort sort.TypeImport = true
@@ -82,10 +83,16 @@ VarsKeepClear p x =
     (q : Place) → Among (entering q) (steps p) → (v n : NamedDeclaration) → Among v (named_by_node q.node.kind p.source_type q.node q.path) → v.sort ≡ sort.Var → v.name ≡ x → Among n (named_in p) → n.name ≡ x
     → (c : Container) → Among c (before_first_taking (containers p.source_type q.node q.path)) → n.container.node ≡ c.node → ⊥
 
--- the name is declared only so, and its variables keep clear
+-- where a function expression has the name as its own, no other declaration of it belongs to that function, as one does in `(function f<f>() { f })`
+abbrev pub OwnNamesStandAlone : Tree → Name → Type 0
+OwnNamesStandAlone p x =
+    (d e : NamedDeclaration) → Among d (named_in p) → Among e (named_in p) → d.name ≡ x → e.name ≡ x → d.sort ≡ sort.FunctionName → e.container.node ≡ d.container.node → e.identifier ≡ d.identifier
+
+-- the name is declared only so, its variables keep clear, and it stands alone where it is a function's own
 pub record IsSimplyDeclared (p : Tree) (x : Name) : Type 0 where
   pub each : (d : NamedDeclaration) → Among d (named_in p) → d.name ≡ x → is_simple d ≡ true
   pub clear : VarsKeepClear p x
+  pub own : OwnNamesStandAlone p x
 
 -- where it is a member, no other block shares the members; of a name that is not tangled this follows
 abbrev pub HasOwnMembers : Tree → Name → Type 0

@@ -22,19 +22,19 @@ use Rattle.semantic_model.specs.Tie.{Tie, ties}
 use Rattle.semantic_model.proofs.lists.Members.{among_at}
 use Rattle.semantic_model.proofs.once.HeadersEndOnce.{IsEntered}
 use Rattle.semantic_model.proofs.once.ListedUnder.{tie_for, nth_tie}
-use Rattle.typescript_ties.proofs.EnteredOnce.{entered_once}
+use Rattle.binding_laws.proofs.EnteredOnce.{entered_once}
 
 -- the place where a reference is entered
-record ReadAt (r : Occurrence) (ss : List Step) : Type 0 where
-  place : Place
-  entered : IsEntered place ss
-  refers : is kind.IdentifierReference place.node ≡ true
-  is_it : reference_at place ≡ r
+pub record ReadAt (r : Occurrence) (ss : List Step) : Type 0 where
+  pub place : Place
+  pub entered : IsEntered place ss
+  pub refers : is kind.IdentifierReference place.node ≡ true
+  pub is_it : reference_at place ≡ r
 
 read_later : (r : Occurrence) (step : Step) (more : List Step) → ((q : Place) → IsEntered q more → IsEntered q (step ∷ more)) → ReadAt r more → ReadAt r (step ∷ more)
 read_later r step more f h = record { place = h.place; entered = f h.place h.entered; refers = h.refers; is_it = h.is_it }
 
-read_at : (r : Occurrence) (ss : List Step) → Among r (references ss) → ReadAt r ss
+pub read_at : (r : Occurrence) (ss : List Step) → Among r (references ss) → ReadAt r ss
 read_at r [] a = absurd a
 read_at r (entering p ∷ more) a = go (is kind.IdentifierReference p.node) refl a (read_at r more)
   where

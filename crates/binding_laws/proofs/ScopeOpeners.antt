@@ -95,7 +95,8 @@ module _ (table : List ℕ) where
   -- ---- routes
 
   module _ (root : slice_get table 0 ≡ Some 0) where
-    innermost_opened : (chain : List OpenScope) → AllOpened chain → IsOpened (innermost chain)
+    -- the innermost scope of a place
+    pub innermost_opened : (chain : List OpenScope) → AllOpened chain → IsOpened (innermost chain)
     innermost_opened [] h = root
     innermost_opened (s ∷ ss) h = h.0
 
