@@ -35,11 +35,11 @@ keeps_clear_at s ds x (entering q) = not (declares_var s x q) || list_all (λ n.
 keeps_clear_at s ds x _ = true
 
 -- the own name of a function stands alone in it
-abbrev pub stands_alone : List NamedDeclaration → NamedDeclaration → Bool
-stands_alone ds d = not (is_sort sort.FunctionName d) || list_all (λ e. not (bytes_eq e.name d.name && e.container.node == d.container.node) || e.identifier == d.identifier) ds
+abbrev pub owns_its_name_alone : List NamedDeclaration → NamedDeclaration → Bool
+owns_its_name_alone ds d = not (is_sort sort.FunctionName d) || list_all (λ e. not (bytes_eq e.name d.name && e.container.node == d.container.node) || e.identifier == d.identifier) ds
 
 -- whether the name is simple
 abbrev pub is_simple_name : Tree → Name → Bool
 is_simple_name p x =
-    (list_all (λ d. not (bytes_eq d.name x) || (is_simple d && stands_alone (named_in p) d)) (named_in p) && list_all (asks_at x) (steps p))
+    (list_all (λ d. not (bytes_eq d.name x) || (is_simple d && owns_its_name_alone (named_in p) d)) (named_in p) && list_all (asks_at x) (steps p))
     && list_all (keeps_clear_at p.source_type (named_in p) x) (steps p)
