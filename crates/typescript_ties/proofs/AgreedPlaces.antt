@@ -43,7 +43,7 @@ use Rattle.typescript_ties.specs.MeaningSets.{MeaningSet, shares_meaning, sort_m
 use Rattle.typescript_ties.specs.NamedDeclarations.{NamedDeclaration, same_sort, is_sort, named_in}
 use Rattle.typescript_ties.specs.Resolved.{Resolved, nowhere, declared_in, has_declared, declarations_in, has_meaning, resolve}
 use Rattle.typescript_ties.specs.SeenTogether.{is_in_scope, is_seen_from, bound_together, asked_together}
-use Rattle.typescript_ties.specs.SimpleNames.{is_common, is_apart, IsSimplyDeclared, HasOwnMembers, is_way_of, is_parameter_named, is_past_parameter}
+use Rattle.typescript_ties.specs.SimpleNames.{is_common, is_apart, IsSimplyDeclared, HasOwnMembers, is_way_of}
 use Rattle.typescript_ties.specs.declared.declaration_sort.DeclarationSort.TheVariants as sort
 use Rattle.binding_laws.proofs.ChildChains.{ChainOf, outer_chain, inner_chain, OwnOf, own_of}
 use Rattle.typescript_ties.proofs.ChildPlaces.{tells_inside, told_by_kind, tree_tells, tells_header, tree_headed}
@@ -52,6 +52,7 @@ use Rattle.typescript_ties.proofs.FitsTogether.{any_meets, AreBoundAs, bound_as_
 use Rattle.typescript_ties.proofs.HeadPlaces.{IsCommonPlace, CommonStep, common_places, round_place}
 use Rattle.typescript_ties.proofs.OutsideGroups.{IsAside, aside_of}
 use Rattle.typescript_ties.proofs.Pairs.{container_kind_is}
+use Rattle.typescript_ties.proofs.PastParameters.{is_parameter_named, is_past_parameter}
 use Rattle.typescript_ties.proofs.ScopeMembers.{IsHidden, SeenAs, seen_as, SeenToo, seen_too}
 use Rattle.binding_laws.proofs.ScopeOpeners.{openers, IsOpened, AllOpened, IsPlaceOpened, places_opened, root_opener}
 use Rattle.typescript_ties.proofs.OutsidePlaces.{decorated, plain_round, plain_chain, decorator_has, child_out}

@@ -3,12 +3,14 @@ use Rattle.std.proofs.Common.{◌≡◌, ℕ, suc, ◌+◌, ◌≤◌, List, [],
 use Rattle.std.proofs.lemmas.Bool.{cases_Bool, not-true}
 use Rattle.semantic_syntax.proofs.Truth.{and_first, and_second}
 use Rattle.semantic_syntax.specs.declared.source_type.SourceType.{SourceType}
+use Rattle.semantic_kinds.specs.Classes.{holds_kind}
 use Rattle.semantic_kinds.specs.Kinds.{same_kind}
 use Rattle.semantic_kinds.specs.declared.kind.AstType.TheVariants as kind
 use Rattle.semantic_kinds.specs.declared.role.Role.{Role}
 use Rattle.semantic_tree.specs.Faults.{first_fault}
 use Rattle.semantic_tree.specs.Forest.{Forest, nothing, tree, count, numbered}
 use Rattle.semantic_tree.specs.Tree.{Tree, IsNumbered}
+use Rattle.semantic_tree.specs.Views.{is}
 use Rattle.semantic_tree.specs.declared.node.Node.{Node}
 use Rattle.semantic_model.specs.Cursor.{on_entering}
 use Rattle.semantic_model.specs.EachStep.{EachStep}
@@ -33,12 +35,17 @@ use Rattle.typescript_ties.proofs.ChildPlaces.{same_truth, is_function, tells_in
 use Rattle.typescript_ties.proofs.GroupNodes.{stands_by}
 use Rattle.typescript_ties.proofs.Heads.{is_of_header, HeadOf, head_of}
 use Rattle.typescript_ties.proofs.OutsidePlaces.{decorated, plain_round, plain_chain, outer_round, decorator_has, child_out}
-use Rattle.typescript_ties.proofs.ParameterLists.{is_parameter_kind, is_list_kind, tells_parameters, tree_parameters, AllBefore, before_later, before_append, outside_before}
+use Rattle.typescript_ties.proofs.ParameterLists.{is_parameter_kind, is_list_kind, tells_decorator, stands_in_list, stands_deeper, tells_parameters, tree_parameters, AllBefore, before_later, before_append, outside_before}
 use Rattle.typescript_ties.proofs.UndeclaredFree.{OfEntered, IsEnteredIn, all_entered}
 use Rattle.typescript_ties.proofs.Unheaded.{is_unheaded, stands_unheaded, tree_unheaded, child_unheaded}
 
 never : true ≡ false → ⊥
 never h = absurd cc
+
+-- no type parameters on the way to a node stand directly in the program
+abbrev pub AreDeep : Node → List Node → Type 0
+AreDeep child [] = Unit {0}
+AreDeep child (f ∷ path) = (is kind.TSTypeParameterDeclaration child ≡ true → f.node_id ≡ 0 → ⊥) × AreDeep f path
 
 module _ (p : Tree) where
   abbrev s : SourceType
@@ -81,6 +88,8 @@ module _ (p : Tree) where
     pub source : q.source_type ≡ s
     -- the containers stand at nodes before this one, but for the program's own
     pub up_to : AllBefore (suc q.node.node_id) (round_place q)
+    pub later : same_kind q.node.kind kind.Program ≡ false → 1 ≤ q.node.node_id
+    pub deep : AreDeep q.node q.path
     pub before : same_kind q.node.kind kind.Program ≡ false → AllBefore q.node.node_id (round_place q)
     -- of a list of parameters, outside of the function
     pub out : is_list_kind q.node.kind ≡ true → HeadIn (outside q.chain) (outside_function (round_place q))
@@ -240,6 +249,13 @@ module _ (p : Tree) where
               (before_append node.node_id around (round_place q) (λ c a. (let w : c.node ≡ q.node.node_id = stands_by s q.node node q.path (round_place q) q.node.kind c a in omega (arith, w, later))) outer)
         ]
 
+    child_deep : is kind.TSTypeParameterDeclaration node ≡ true → q.node.node_id ≡ 0 → ⊥
+    child_deep i z = go (same_kind q.node.kind kind.Program) refl (and_second (stands_in_list q.node.kind r node.kind) (stands_deeper q.node.kind node.kind) (and_second (tells_decorator q.node.kind r node.kind) (stands_in_list q.node.kind r node.kind && stands_deeper q.node.kind node.kind) params))
+      where
+        go : (b : Bool) → same_kind q.node.kind kind.Program ≡ b → (not b || not (holds_kind (kind.TSTypeParameterDeclaration ∷ []) node.kind)) ≡ true → ⊥
+        go true e h = never (sym h ∙ ap not (subst (λ j. holds_kind (kind.TSTypeParameterDeclaration ∷ []) j ≡ true) (sym (kind_is node.kind kind.TSTypeParameterDeclaration i)) refl))
+        go false e h = let w : 1 ≤ q.node.node_id = k.later e in absurd (omega (arith, w, z))
+
     child_is_unheaded : is_unheaded node.kind ≡ true → (innermost child.chain).in_header ≡ false
     child_is_unheaded u = elim (cases_Bool decorates) [
       | inl e ↦ absurd (never (sym u ∙ subst (λ j. is_unheaded j ≡ false) (sym (kind_is node.kind kind.Decorator (and_second (is_parameter_kind q.node.kind) (same_kind node.kind kind.Decorator) e))) refl))
@@ -252,6 +268,8 @@ module _ (p : Tree) where
       no_with = no_with;
       source = k.source;
       up_to = before_later node.node_id (suc node.node_id) (round_place child) (omega arith) child_before;
+      later = λ e. omega (arith, later);
+      deep = (child_deep, k.deep);
       before = λ e. child_before;
       unheaded = child_is_unheaded;
       out = child_out s q r node text own cursor params reached own_is HeadIn k.out k.before k.head;
@@ -305,6 +323,8 @@ module _ (p : Tree) where
     no_with = subst (λ k. same_kind k kind.WithStatement ≡ false) (sym (has_form p h).root) refl;
     source = refl;
     up_to = (omega arith, tt);
+    later = λ e. absurd (never (sym (ap (λ k. same_kind k kind.Program) (has_form p h).root) ∙ e));
+    deep = tt;
     before = λ e. absurd (never (sym (ap (λ k. same_kind k kind.Program) (has_form p h).root) ∙ e));
     out = λ e. absurd (never (sym (subst (λ k. is_list_kind k ≡ true) (has_form p h).root e)));
     unheaded = λ e. refl;

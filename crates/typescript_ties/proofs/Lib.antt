@@ -26,7 +26,9 @@ pub mod FitsTogether
 pub mod GroupNodes
 pub mod ScopeMembers
 pub mod OutsideGroups
+pub mod PastParameters
 pub mod AgreedPlaces
+pub mod HiddenParameters
 pub mod UntangledTies
 pub mod MergedBlocks
 pub mod SharedMembers

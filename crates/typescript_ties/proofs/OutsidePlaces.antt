@@ -15,7 +15,7 @@ use Rattle.semantic_model.proofs.form.Clauses.{kind_is}
 use Rattle.typescript_ties.specs.Containers.{Container, outside_function, containers_by, containers}
 use Rattle.binding_laws.proofs.ChildChains.{ChainOf, outer_chain, inner_chain, OwnOf, chain_of}
 use Rattle.typescript_ties.proofs.ChildPlaces.{same_truth}
-use Rattle.typescript_ties.proofs.ParameterLists.{is_parameter_kind, is_list_kind, has_parameters, tells_decorator, stands_in_list, tells_parameters, AllBefore, outside_is}
+use Rattle.typescript_ties.proofs.ParameterLists.{is_parameter_kind, is_list_kind, has_parameters, tells_decorator, stands_in_list, stands_deeper, tells_parameters, AllBefore, outside_is}
 
 never : true ≡ false → ⊥
 never h = absurd cc
@@ -65,10 +65,10 @@ module _ (s : SourceType) (q : Place) (r : Role) (node : Node) (text : List ℕ)
   group = containers_by q.node.kind s q.node q.path (round q) node
 
   told : same_truth (is_parameter_decorator q.node.kind r) decorated ≡ true
-  told = and_first (tells_decorator q.node.kind r node.kind) (stands_in_list q.node.kind r node.kind) params
+  told = and_first (tells_decorator q.node.kind r node.kind) (stands_in_list q.node.kind r node.kind && stands_deeper q.node.kind node.kind) params
 
   stands : stands_in_list q.node.kind r node.kind ≡ true
-  stands = and_second (tells_decorator q.node.kind r node.kind) (stands_in_list q.node.kind r node.kind) params
+  stands = and_first (stands_in_list q.node.kind r node.kind) (stands_deeper q.node.kind node.kind) (and_second (tells_decorator q.node.kind r node.kind) (stands_in_list q.node.kind r node.kind && stands_deeper q.node.kind node.kind) params)
 
   -- what isn't a decorator of a parameter
   pub by_role : decorated ≡ false → is_parameter_decorator q.node.kind r ≡ false

@@ -31,7 +31,7 @@ use Rattle.typescript_ties.specs.declared.container_kind.ContainerKind.{Containe
 use Rattle.typescript_ties.specs.Containers.{Container, is_container, same_container_kind, same_container, container_of, bound_container, is_exported_under, is_of_signature, containers_by}
 use Rattle.typescript_ties.specs.DeclaredNames.{told_to_tables, told_by_language}
 use Rattle.typescript_ties.specs.MeaningSets.{sort_meanings}
-use Rattle.typescript_ties.specs.NamedDeclarations.{NamedDeclaration, named_declaration, global_besides, declared_here, imported_as, from_first_taking, declared_outward, variables_named, leaves_its_block, namespace_sort, first_condition, named_by_node}
+use Rattle.typescript_ties.specs.NamedDeclarations.{same_sort, NamedDeclaration, named_declaration, global_besides, declared_here, imported_as, from_first_taking, declared_outward, variables_named, leaves_its_block, namespace_sort, first_condition, named_by_node}
 use Rattle.typescript_ties.specs.SimpleNames.{is_simple_sort, is_apart, is_simple, before_first_taking}
 use Rattle.typescript_ties.specs.declared.container_kind.ContainerKind.TheVariants as container
 use Rattle.typescript_ties.specs.declared.declaration_sort.DeclarationSort.{DeclarationSort}
@@ -64,6 +64,7 @@ pub record HasMeanings (k : DeclarationSort) (flags : ℕ) : Type 0 where
   pub value : meets flags symbol.ByValueAsType.bits ≡ (sort_meanings k).value
   pub is_type : meets flags symbol.ByType.bits ≡ (sort_meanings k).is_type
   pub namespace : meets flags symbol.AsNamespace.bits ≡ (sort_meanings k).namespace
+  pub parameter : (not (same_sort k sort.Parameter) || meets flags symbol.FunctionScopedVariable.bits) ≡ true
 
 -- and are no function expression's
 pub record FlagsAre (k : DeclarationSort) (flags : ℕ) : Type 0 where
@@ -71,9 +72,10 @@ pub record FlagsAre (k : DeclarationSort) (flags : ℕ) : Type 0 where
   pub is_type : meets flags symbol.ByType.bits ≡ (sort_meanings k).is_type
   pub namespace : meets flags symbol.AsNamespace.bits ≡ (sort_meanings k).namespace
   pub no_own : meets flags symbol.FunctionExpression.bits ≡ false
+  pub parameter : (not (same_sort k sort.Parameter) || meets flags symbol.FunctionScopedVariable.bits) ≡ true
 
 meanings_of : (k : DeclarationSort) (flags : ℕ) → FlagsAre k flags → HasMeanings k flags
-meanings_of k flags f = record { value = f.value; is_type = f.is_type; namespace = f.namespace }
+meanings_of k flags f = record { value = f.value; is_type = f.is_type; namespace = f.namespace; parameter = f.parameter }
 
 module _ (p : Tree) where
   abbrev s : SourceType
@@ -252,70 +254,70 @@ module _ (p : Tree) where
     Paired j = AllPairs (declared_inside j q own ++ declared_by j q) (named_by_node j s q.node q.path)
 
     variable_are : (a : Bool) → FlagsAre sort.Var (union symbol.FunctionScopedVariable.bits (ambient_if a))
-    variable_are true = record { value = refl; is_type = refl; namespace = refl; no_own = refl }
-    variable_are false = record { value = refl; is_type = refl; namespace = refl; no_own = refl }
+    variable_are true = record { value = refl; is_type = refl; namespace = refl; no_own = refl; parameter = refl }
+    variable_are false = record { value = refl; is_type = refl; namespace = refl; no_own = refl; parameter = refl }
 
     lexical_are : (t a : Bool) → FlagsAre sort.Lexical (union (cond t symbol.BlockScopedVariable.bits (union symbol.BlockScopedVariable.bits symbol.ConstVariable.bits)) (ambient_if a))
-    lexical_are true true = record { value = refl; is_type = refl; namespace = refl; no_own = refl }
-    lexical_are true false = record { value = refl; is_type = refl; namespace = refl; no_own = refl }
-    lexical_are false true = record { value = refl; is_type = refl; namespace = refl; no_own = refl }
-    lexical_are false false = record { value = refl; is_type = refl; namespace = refl; no_own = refl }
+    lexical_are true true = record { value = refl; is_type = refl; namespace = refl; no_own = refl; parameter = refl }
+    lexical_are true false = record { value = refl; is_type = refl; namespace = refl; no_own = refl; parameter = refl }
+    lexical_are false true = record { value = refl; is_type = refl; namespace = refl; no_own = refl; parameter = refl }
+    lexical_are false false = record { value = refl; is_type = refl; namespace = refl; no_own = refl; parameter = refl }
 
     function_are : (a t : Bool) → FlagsAre sort.Function (union (union symbol.Function.bits (ambient_if a)) (union 0 (cond t symbol.AsyncOrGeneratorFunction.bits 0)))
-    function_are true true = record { value = refl; is_type = refl; namespace = refl; no_own = refl }
-    function_are true false = record { value = refl; is_type = refl; namespace = refl; no_own = refl }
-    function_are false true = record { value = refl; is_type = refl; namespace = refl; no_own = refl }
-    function_are false false = record { value = refl; is_type = refl; namespace = refl; no_own = refl }
+    function_are true true = record { value = refl; is_type = refl; namespace = refl; no_own = refl; parameter = refl }
+    function_are true false = record { value = refl; is_type = refl; namespace = refl; no_own = refl; parameter = refl }
+    function_are false true = record { value = refl; is_type = refl; namespace = refl; no_own = refl; parameter = refl }
+    function_are false false = record { value = refl; is_type = refl; namespace = refl; no_own = refl; parameter = refl }
 
     class_are : (a : Bool) → FlagsAre sort.Class (union symbol.Class.bits (ambient_if a))
-    class_are true = record { value = refl; is_type = refl; namespace = refl; no_own = refl }
-    class_are false = record { value = refl; is_type = refl; namespace = refl; no_own = refl }
+    class_are true = record { value = refl; is_type = refl; namespace = refl; no_own = refl; parameter = refl }
+    class_are false = record { value = refl; is_type = refl; namespace = refl; no_own = refl; parameter = refl }
 
     class_name_are : (a : Bool) → FlagsAre sort.ClassName (union symbol.Class.bits (ambient_if a))
-    class_name_are true = record { value = refl; is_type = refl; namespace = refl; no_own = refl }
-    class_name_are false = record { value = refl; is_type = refl; namespace = refl; no_own = refl }
+    class_name_are true = record { value = refl; is_type = refl; namespace = refl; no_own = refl; parameter = refl }
+    class_name_are false = record { value = refl; is_type = refl; namespace = refl; no_own = refl; parameter = refl }
 
     alias_are : (a : Bool) → FlagsAre sort.TypeAlias (union symbol.TypeAlias.bits (ambient_if a))
-    alias_are true = record { value = refl; is_type = refl; namespace = refl; no_own = refl }
-    alias_are false = record { value = refl; is_type = refl; namespace = refl; no_own = refl }
+    alias_are true = record { value = refl; is_type = refl; namespace = refl; no_own = refl; parameter = refl }
+    alias_are false = record { value = refl; is_type = refl; namespace = refl; no_own = refl; parameter = refl }
 
     interface_are : (a : Bool) → FlagsAre sort.Interface (union symbol.Interface.bits (ambient_if a))
-    interface_are true = record { value = refl; is_type = refl; namespace = refl; no_own = refl }
-    interface_are false = record { value = refl; is_type = refl; namespace = refl; no_own = refl }
+    interface_are true = record { value = refl; is_type = refl; namespace = refl; no_own = refl; parameter = refl }
+    interface_are false = record { value = refl; is_type = refl; namespace = refl; no_own = refl; parameter = refl }
 
     const_enum_are : (a : Bool) → FlagsAre sort.Enum (union symbol.ConstEnum.bits (ambient_if a))
-    const_enum_are true = record { value = refl; is_type = refl; namespace = refl; no_own = refl }
-    const_enum_are false = record { value = refl; is_type = refl; namespace = refl; no_own = refl }
+    const_enum_are true = record { value = refl; is_type = refl; namespace = refl; no_own = refl; parameter = refl }
+    const_enum_are false = record { value = refl; is_type = refl; namespace = refl; no_own = refl; parameter = refl }
 
     enum_are : (a : Bool) → FlagsAre sort.Enum (union symbol.RegularEnum.bits (ambient_if a))
-    enum_are true = record { value = refl; is_type = refl; namespace = refl; no_own = refl }
-    enum_are false = record { value = refl; is_type = refl; namespace = refl; no_own = refl }
+    enum_are true = record { value = refl; is_type = refl; namespace = refl; no_own = refl; parameter = refl }
+    enum_are false = record { value = refl; is_type = refl; namespace = refl; no_own = refl; parameter = refl }
 
     type_namespace_are : (a : Bool) → FlagsAre sort.TypeNamespace (union symbol.NamespaceModule.bits (ambient_if a))
-    type_namespace_are true = record { value = refl; is_type = refl; namespace = refl; no_own = refl }
-    type_namespace_are false = record { value = refl; is_type = refl; namespace = refl; no_own = refl }
+    type_namespace_are true = record { value = refl; is_type = refl; namespace = refl; no_own = refl; parameter = refl }
+    type_namespace_are false = record { value = refl; is_type = refl; namespace = refl; no_own = refl; parameter = refl }
 
     namespace_are : (a : Bool) → FlagsAre sort.ValueNamespace (union symbol.ValueModule.bits (ambient_if a))
-    namespace_are true = record { value = refl; is_type = refl; namespace = refl; no_own = refl }
-    namespace_are false = record { value = refl; is_type = refl; namespace = refl; no_own = refl }
+    namespace_are true = record { value = refl; is_type = refl; namespace = refl; no_own = refl; parameter = refl }
+    namespace_are false = record { value = refl; is_type = refl; namespace = refl; no_own = refl; parameter = refl }
 
     import_are : FlagsAre sort.Import symbol.Import.bits
-    import_are = record { value = refl; is_type = refl; namespace = refl; no_own = refl }
+    import_are = record { value = refl; is_type = refl; namespace = refl; no_own = refl; parameter = refl }
 
     type_import_are : FlagsAre sort.TypeImport symbol.TypeImport.bits
-    type_import_are = record { value = refl; is_type = refl; namespace = refl; no_own = refl }
+    type_import_are = record { value = refl; is_type = refl; namespace = refl; no_own = refl; parameter = refl }
 
     member_are : FlagsAre sort.EnumMember symbol.EnumMember.bits
-    member_are = record { value = refl; is_type = refl; namespace = refl; no_own = refl }
+    member_are = record { value = refl; is_type = refl; namespace = refl; no_own = refl; parameter = refl }
 
     key_are : FlagsAre sort.MappedKey symbol.TypeParameter.bits
-    key_are = record { value = refl; is_type = refl; namespace = refl; no_own = refl }
+    key_are = record { value = refl; is_type = refl; namespace = refl; no_own = refl; parameter = refl }
 
     value_parameter_are : FlagsAre sort.Parameter symbol.FunctionScopedVariable.bits
-    value_parameter_are = record { value = refl; is_type = refl; namespace = refl; no_own = refl }
+    value_parameter_are = record { value = refl; is_type = refl; namespace = refl; no_own = refl; parameter = refl }
 
     parameter_are : FlagsAre sort.TypeParameter symbol.TypeParameter.bits
-    parameter_are = record { value = refl; is_type = refl; namespace = refl; no_own = refl }
+    parameter_are = record { value = refl; is_type = refl; namespace = refl; no_own = refl; parameter = refl }
 
     passed_in : (chain : List OpenScope) (z : OpenScope) → Among z (passed_before is_var chain) → Among z chain
     passed_in [] z a = absurd a
@@ -454,10 +456,10 @@ module _ (p : Tree) where
         among = subst (λ j. Among (container_of container.OwnName q.node) (containers_by j s q.node q.path cs q.node)) (sym e) (own_among (is_of_signature q.node) (is kind.TSTypeParameterDeclaration q.node))
 
         own_flags : (a t : Bool) → HasMeanings sort.FunctionName (union (union symbol.Function.bits (ambient_if a)) (union symbol.FunctionExpression.bits (cond t symbol.AsyncOrGeneratorFunction.bits 0)))
-        own_flags true true = record { value = refl; is_type = refl; namespace = refl }
-        own_flags true false = record { value = refl; is_type = refl; namespace = refl }
-        own_flags false true = record { value = refl; is_type = refl; namespace = refl }
-        own_flags false false = record { value = refl; is_type = refl; namespace = refl }
+        own_flags true true = record { value = refl; is_type = refl; namespace = refl; parameter = refl }
+        own_flags true false = record { value = refl; is_type = refl; namespace = refl; parameter = refl }
+        own_flags false true = record { value = refl; is_type = refl; namespace = refl; parameter = refl }
+        own_flags false false = record { value = refl; is_type = refl; namespace = refl; parameter = refl }
 
         is_own : (a t : Bool) → meets (union (union symbol.Function.bits (ambient_if a)) (union symbol.FunctionExpression.bits (cond t symbol.AsyncOrGeneratorFunction.bits 0))) symbol.FunctionExpression.bits ≡ true
         is_own true true = refl

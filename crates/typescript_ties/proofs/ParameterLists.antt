@@ -46,12 +46,16 @@ has_parameters k =
 abbrev pub tells_decorator : AstType → Role → AstType → Bool
 tells_decorator k r k2 = same_truth (is_parameter_decorator k r) (is_parameter_kind k && same_kind k2 kind.Decorator)
 
--- a list stands in the scope of what has it, and a parameter in a list
+-- a list stands in the scope of what has it, and a parameter in a list; type parameters are no part of the program itself
 abbrev pub stands_in_list : AstType → Role → AstType → Bool
-stands_in_list k r k2 = ((has_parameters k && is_inside k r) || not (holds_kind (kind.FormalParameters ∷ []) k2)) && (same_kind k kind.FormalParameters || not (is_parameter_kind k2))
+stands_in_list k r k2 =
+    ((has_parameters k && is_inside k r) || not (holds_kind (kind.FormalParameters ∷ []) k2)) && (same_kind k kind.FormalParameters || not (is_parameter_kind k2))
+
+abbrev pub stands_deeper : AstType → AstType → Bool
+stands_deeper k k2 = not (same_kind k kind.Program) || not (holds_kind (kind.TSTypeParameterDeclaration ∷ []) k2)
 
 abbrev pub tells_parameters : AstType → Role → AstType → List ℕ → Bool
-tells_parameters k r k2 text = tells_decorator k r k2 && stands_in_list k r k2
+tells_parameters k r k2 text = tells_decorator k r k2 && (stands_in_list k r k2 && stands_deeper k k2)
 
 decorator_part : AstType → List ℕ → Part → Bool
 decorator_part k text part = not (is_parameter_kind k) || cond (same_role part.role role.Decorators) (is_one_of (kind.Decorator ∷ []) part.class) (is_none_of (kind.Decorator ∷ []) part.class text)
@@ -60,11 +64,14 @@ list_part : AstType → List ℕ → Part → Bool
 list_part k text part =
     ((has_parameters k && is_inside k part.role) || is_none_of (kind.FormalParameters ∷ []) part.class text) && (same_kind k kind.FormalParameters || is_none_of (kind.FormalParameter ∷ kind.FormalParameterRest ∷ []) part.class text)
 
+deeper_part : AstType → List ℕ → Part → Bool
+deeper_part k text part = not (same_kind k kind.Program) || is_none_of (kind.TSTypeParameterDeclaration ∷ []) part.class text
+
 parameters_part : AstType → List ℕ → Part → Bool
-parameters_part k text part = decorator_part k text part && list_part k text part
+parameters_part k text part = decorator_part k text part && (list_part k text part && deeper_part k text part)
 
 all_parts : (k : AstType) (text : List ℕ) → list_all (parameters_part k text) (parts k) ≡ true
-unfolding parameters_part decorator_part list_part
+unfolding parameters_part decorator_part list_part deeper_part
 all_parts kind.Program text = refl
 all_parts _ text = refl
 
@@ -96,10 +103,17 @@ list_tells k part k2 text h i =
     (or_by (has_parameters k && is_inside k part.role) (is_none_of (kind.FormalParameters ∷ []) part.class text) (not (holds_kind (kind.FormalParameters ∷ []) k2)) (λ e. ap not (none_of (kind.FormalParameters ∷ []) part.class k2 text e i)) (and_first a b h))
     (or_by (same_kind k kind.FormalParameters) (is_none_of (kind.FormalParameter ∷ kind.FormalParameterRest ∷ []) part.class text) (not (is_parameter_kind k2)) (λ e. ap not (none_of (kind.FormalParameter ∷ kind.FormalParameterRest ∷ []) part.class k2 text e i)) (and_second a b h))
 
+deeper_tells : (k : AstType) (part : Part) (k2 : AstType) (text : List ℕ) → deeper_part k text part ≡ true → is_of part.class k2 text ≡ true → stands_deeper k k2 ≡ true
+unfolding deeper_part
+deeper_tells k part k2 text h i =
+    or_by (not (same_kind k kind.Program)) (is_none_of (kind.TSTypeParameterDeclaration ∷ []) part.class text) (not (holds_kind (kind.TSTypeParameterDeclaration ∷ []) k2)) (λ e. ap not (none_of (kind.TSTypeParameterDeclaration ∷ []) part.class k2 text e i)) h
+
 part_tells : (k : AstType) (part : Part) (k2 : AstType) (text : List ℕ) → parameters_part k text part ≡ true → is_of part.class k2 text ≡ true → tells_parameters k part.role k2 text ≡ true
 unfolding parameters_part
 part_tells k part k2 text h i =
-    and_from (tells_decorator k part.role k2) (stands_in_list k part.role k2) (decorator_tells k part k2 text (and_first (decorator_part k text part) (list_part k text part) h) i) (list_tells k part k2 text (and_second (decorator_part k text part) (list_part k text part) h) i)
+    let rest : (list_part k text part && deeper_part k text part) ≡ true = and_second (decorator_part k text part) (list_part k text part && deeper_part k text part) h in
+    and_from (tells_decorator k part.role k2) (stands_in_list k part.role k2 && stands_deeper k k2) (decorator_tells k part k2 text (and_first (decorator_part k text part) (list_part k text part && deeper_part k text part) h) i)
+    (and_from (stands_in_list k part.role k2) (stands_deeper k k2) (list_tells k part k2 text (and_first (list_part k text part) (deeper_part k text part) rest) i) (deeper_tells k part k2 text (and_second (list_part k text part) (deeper_part k text part) rest) i))
 
 pub tree_parameters : (p : Tree) → first_fault p ≡ None → holds_below tells_parameters p.root.kind p.root.children ≡ true
 tree_parameters p h = tree_holds tells_parameters (λ k. passed_hold tells_parameters (parameters_part k) k (part_tells k) (parts k) (all_parts k)) p h

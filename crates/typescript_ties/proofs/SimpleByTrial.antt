@@ -1,7 +1,7 @@
 -- What is tried of a name holds of it.
 use Rattle.std.proofs.Common.{◌≡◌, List, [], ◌∷◌, Bool, true, false, ◌&&◌, ◌||◌, not, sym, subst, inl, inr, bytes_eq, ap, ◌==◌, ◌∙◌}
 use Rattle.std.specs.List.{list_all}
-use Rattle.std.proofs.lemmas.Bool.{and_from, eq-eqb, eqb-true, not-true}
+use Rattle.std.proofs.lemmas.Bool.{and_from, eq-eqb, eqb-true}
 use Rattle.semantic_syntax.proofs.Truth.{and_first, and_second}
 use Rattle.semantic_kinds.specs.declared.kind.AstType.TheVariants as kind
 use Rattle.semantic_syntax.specs.Tables.{Name}
@@ -9,14 +9,13 @@ use Rattle.semantic_tree.specs.Tree.{Tree}
 use Rattle.semantic_tree.specs.Views.{is}
 use Rattle.semantic_model.specs.Cursor.{way_or_read}
 use Rattle.semantic_model.specs.Entries.{Among}
-use Rattle.semantic_model.specs.Place.{Place}
 use Rattle.semantic_model.specs.Step.{entering, steps}
 use Rattle.semantic_model.proofs.once.ListedUnder.{name_tells}
 use Rattle.typescript_ties.specs.AskedMeanings.{asked_by_reference}
 use Rattle.typescript_ties.specs.Containers.{Container, containers}
 use Rattle.typescript_ties.specs.NamedDeclarations.{NamedDeclaration, same_sort, is_sort, named_by_node, named_in}
-use Rattle.typescript_ties.specs.SimpleNames.{is_simple, before_first_taking, VarsKeepClear, OwnNamesStandAlone, is_way_of, is_past_parameter, IsSimpleName}
-use Rattle.typescript_ties.specs.TriedNames.{asks_its_way, asks_past_none, asks_at, declares_var, stands_apart, keeps_clear_at, owns_its_name_alone, is_simple_name}
+use Rattle.typescript_ties.specs.SimpleNames.{is_simple, before_first_taking, VarsKeepClear, OwnNamesStandAlone, is_way_of, IsSimpleName}
+use Rattle.typescript_ties.specs.TriedNames.{asks_at, declares_var, stands_apart, keeps_clear_at, owns_its_name_alone, is_simple_name}
 use Rattle.typescript_ties.specs.declared.declaration_sort.DeclarationSort.TheVariants as sort
 use Rattle.typescript_ties.proofs.AgreedPlaces.{any_there}
 
@@ -37,17 +36,13 @@ module _ (p : Tree) (x : Name) (tried : is_simple_name p x ≡ true) where
   all_declared = list_all (λ z. not (bytes_eq z.name x) || (is_simple z && owns_its_name_alone (named_in p) z)) (named_in p)
 
   abbrev all_asked : Bool
-  all_asked = list_all (asks_at (named_in p) x) (steps p)
+  all_asked = list_all (asks_at x) (steps p)
 
   abbrev all_clear : Bool
   all_clear = list_all (keeps_clear_at p.source_type (named_in p) x) (steps p)
 
   both : (all_declared && all_asked) ≡ true
   both = and_first (all_declared && all_asked) all_clear tried
-
-  -- of a reference what is asked of it
-  asked : (q : Place) → Among (entering q) (steps p) → (asks_its_way x q && asks_past_none (named_in p) x q) ≡ true
-  asked q entered = all_among (asks_at (named_in p) x) (steps p) (entering q) (and_second all_declared all_asked both) entered
 
   named_x : (y : Name) → y ≡ x → bytes_eq y x ≡ true
   named_x y e = elim (name_tells y x) [ inl i ↦ i.0 | inr i ↦ absurd (i.1 e) ]
@@ -79,8 +74,5 @@ module _ (p : Tree) (x : Name) (tried : is_simple_name p x ≡ true) where
   simple_name = record {
     simply = record { each = λ d a e. and_first (is_simple d) (owns_its_name_alone (named_in p) d) (declared d a e); clear = keeps_clear; own = own_alone };
     ways = λ q entered refers is_x. implied (is kind.IdentifierReference q.node && bytes_eq q.node.text x) (is_way_of (asked_by_reference q.path) (way_or_read q.cursor))
-        (and_first (asks_its_way x q) (asks_past_none (named_in p) x q) (asked q entered)) (and_from (is kind.IdentifierReference q.node) (bytes_eq q.node.text x) refers (named_x q.node.text is_x));
-    parameters = λ q entered refers is_x past. not-true (asked_by_reference q.path).value
-        (implied ((is kind.IdentifierReference q.node && bytes_eq q.node.text x) && is_past_parameter (named_in p) x q.node q.path) (not (asked_by_reference q.path).value) (and_second (asks_its_way x q) (asks_past_none (named_in p) x q) (asked q entered))
-        (and_from (is kind.IdentifierReference q.node && bytes_eq q.node.text x) (is_past_parameter (named_in p) x q.node q.path) (and_from (is kind.IdentifierReference q.node) (bytes_eq q.node.text x) refers (named_x q.node.text is_x)) past));
+        (all_among (asks_at x) (steps p) (entering q) (and_second all_declared all_asked both) entered) (and_from (is kind.IdentifierReference q.node) (bytes_eq q.node.text x) refers (named_x q.node.text is_x));
   }

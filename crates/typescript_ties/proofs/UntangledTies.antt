@@ -56,6 +56,7 @@ use Rattle.typescript_ties.specs.SeenTogether.{is_in_scope, is_seen_from, bound_
 use Rattle.typescript_ties.specs.SimpleNames.{is_common, HasOwnMembers, IsSimpleName}
 use Rattle.typescript_ties.proofs.AgreedPlaces.{Agrees, AllHave, IsMissed, Matches, AgreesRound, AgreedStep, looked_up, agreed_places, among_filter, filter_among, any_there}
 use Rattle.typescript_ties.proofs.FitsTogether.{meets_union, meets_mask}
+use Rattle.typescript_ties.proofs.HiddenParameters.{asks_past_none}
 use Rattle.typescript_ties.proofs.HeadPlaces.{round_place}
 use Rattle.typescript_ties.proofs.OwnMembers.{own_members}
 use Rattle.typescript_ties.proofs.ClearFold.{ClearState}
@@ -275,6 +276,9 @@ module _ (p : Tree) (h : first_fault p ≡ None) (common : is_common p ≡ true)
       by true false i j k = absurd (never (sym j))
       by false u i j k = absurd (never (sym i))
 
+  hidden : holds_in p.source_type (mentions p) (tables_of p) reason.HiddenParameter x ≡ false
+  hidden = holds_not reason.HiddenParameter (inr (inr (inr (inr (inr (inr (inr (inr (inr (inl refl))))))))))
+
   unmerged : any_symbol (is_merged_member (mentions p) (tables_of p)) (tables_of p).symbols x ≡ false
   unmerged = holds_not reason.MergedMember (inr (inr (inr (inr (inr (inr (inl refl)))))))
 
@@ -408,7 +412,7 @@ module _ (p : Tree) (h : first_fault p ≡ None) (common : is_common p ≡ true)
     pub use_agrees : is_use_tied (analysis_of p) (named_in p) (name_use p.source_type q) ≡ true
     use_agrees =
         let agree : AgreesRound p h common typed numbered x no_arguments name.simply alone_members q = (each_among (AgreedStep p h common typed numbered x no_arguments name.simply alone_members) (steps p) (entering q) (agreed_places p h common typed numbered x no_arguments name.simply alone_members) entered).0 in
-        let matches : Matches p h common typed numbered x no_arguments name.simply alone_members w (looked_up p h common typed numbered x no_arguments name.simply alone_members w q.chain) (resolve (named_in p) (round_place p q) (asked_by_reference q.path) x) = agree (asked_by_reference q.path) w (name.ways q entered refers is_x) (name.parameters q entered refers is_x) in
+        let matches : Matches p h common typed numbered x no_arguments name.simply alone_members w (looked_up p h common typed numbered x no_arguments name.simply alone_members w q.chain) (resolve (named_in p) (round_place p q) (asked_by_reference q.path) x) = agree (asked_by_reference q.path) w (name.ways q entered refers is_x) (asks_past_none p h common typed numbered x name.simply hidden q entered refers is_x) in
         let there : is_tied_as_resolved (analysis_of p) q.node.node_id (resolve (named_in p) (round_place p q) (asked_by_reference q.path) x) ≡ true = elim matches [
           | inl a ↦ agrees_so (looked_up p h common typed numbered x no_arguments name.simply alone_members w q.chain) (resolve (named_in p) (round_place p q) (asked_by_reference q.path) x) tied_is a
           | inr b ↦ elim b [

@@ -31,7 +31,7 @@ use Rattle.typescript_ties.specs.SimpleNames.{is_common, is_apart, before_first_
 use Rattle.typescript_ties.proofs.ChildPlaces.{same_truth, tells_inside, told_by_kind, tree_tells}
 use Rattle.typescript_ties.proofs.Heads.{is_of_header}
 use Rattle.typescript_ties.proofs.HeadPlaces.{IsCommonPlace, CommonStep, common_places, round_place}
-use Rattle.typescript_ties.proofs.ParameterLists.{is_parameter_kind, tells_decorator, stands_in_list, tells_parameters, tree_parameters}
+use Rattle.typescript_ties.proofs.ParameterLists.{is_parameter_kind, tells_decorator, stands_in_list, stands_deeper, tells_parameters, tree_parameters}
 use Rattle.typescript_ties.proofs.VarPlaces.{is_statement_kind, takes_from, is_var_kind, is_placed, tree_places, placed_in, opened_var, statement_no_var, TakesInside, takes_inside, NoneTakes, from_past, before_past, statement_takes_none, statement_has, TakesFirst, takes_first}
 
 never : true ≡ false → ⊥
@@ -130,7 +130,7 @@ no_decorator k kind.Decorator e = absurd (never (sym e))
 no_decorator k _ e = and_false (is_parameter_kind k)
 
 by_role : (k : AstType) (r : Role) (k2 : AstType) (text : List ℕ) → tells_parameters k r k2 text ≡ true → decorates k k2 ≡ false → is_parameter_decorator k r ≡ false
-by_role k r k2 text t e = go (is_parameter_decorator k r) (decorates k k2) (and_first (tells_decorator k r k2) (stands_in_list k r k2) t) e
+by_role k r k2 text t e = go (is_parameter_decorator k r) (decorates k k2) (and_first (tells_decorator k r k2) (stands_in_list k r k2 && stands_deeper k k2) t) e
   where
     go : (a b : Bool) → same_truth a b ≡ true → b ≡ false → a ≡ false
     go true b h i = absurd (never (sym h ∙ i))

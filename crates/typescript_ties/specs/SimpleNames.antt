@@ -1,6 +1,5 @@
 -- Names of which tables and language are proved to agree, and where.
-use Rattle.std.specs.Prelude.{◌≡◌, ℕ, ◌==◌, List, [], ◌∷◌, Bool, true, false, ◌&&◌, ◌||◌, not, cond, bytes_eq}
-use Rattle.std.specs.List.{list_any}
+use Rattle.std.specs.Prelude.{◌≡◌, ℕ, List, [], ◌∷◌, Bool, true, false, ◌&&◌, ◌||◌, not, cond}
 use Rattle.semantic_kinds.specs.Kinds.{same_kind}
 use Rattle.semantic_kinds.specs.declared.kind.AstType.{AstType}
 use Rattle.semantic_kinds.specs.declared.kind.AstType.TheVariants as kind
@@ -11,7 +10,6 @@ use Rattle.semantic_syntax.specs.declared.reference_flags.TheConstants.Reference
 use Rattle.semantic_tree.specs.Forest.{Forest, nothing, tree}
 use Rattle.semantic_tree.specs.Tree.{Tree}
 use Rattle.semantic_tree.specs.Views.{is}
-use Rattle.semantic_tree.specs.declared.node.Node.{Node}
 use Rattle.semantic_model.specs.Cursor.{way_or_read}
 use Rattle.semantic_model.specs.Entries.{Among}
 use Rattle.semantic_model.specs.Place.{Place}
@@ -119,22 +117,7 @@ abbrev pub AsksItsWays : Tree → Name → Type 0
 AsksItsWays p x =
     (q : Place) → Among (entering q) (steps p) → is kind.IdentifierReference q.node ≡ true → q.node.text ≡ x → is_way_of (asked_by_reference q.path) (way_or_read q.cursor) ≡ true
 
--- a parameter of the name that the node has
-abbrev pub is_parameter_named : Node → Name → NamedDeclaration → Bool
-is_parameter_named f name d = is_sort sort.Parameter d && (bytes_eq d.name name && d.container.node == f.node_id)
-
--- whether a node stands in the type parameters of something that has a parameter of the name: there the language doesn't see it
-abbrev pub is_past_parameter : List NamedDeclaration → Name → Node → List Node → Bool
-is_past_parameter ds name child [] = false
-is_past_parameter ds name child (f ∷ path) = (is kind.TSTypeParameterDeclaration child && list_any (is_parameter_named f name) ds) || is_past_parameter ds name f path
-
--- no reference of the name asks for a value there, as in `<T extends typeof a>(a: T)`
-abbrev pub AsksPastNoParameter : Tree → Name → Type 0
-AsksPastNoParameter p x =
-    (q : Place) → Among (entering q) (steps p) → is kind.IdentifierReference q.node ≡ true → q.node.text ≡ x → is_past_parameter (named_in p) x q.node q.path ≡ true → (asked_by_reference q.path).value ≡ false
-
 -- all of that
 pub record IsSimpleName (p : Tree) (x : Name) : Type 0 where
   pub simply : IsSimplyDeclared p x
   pub ways : AsksItsWays p x
-  pub parameters : AsksPastNoParameter p x

@@ -12,20 +12,16 @@ use Rattle.semantic_model.specs.Step.{Step, entering, steps}
 use Rattle.typescript_ties.specs.AskedMeanings.{asked_by_reference}
 use Rattle.typescript_ties.specs.Containers.{Container, containers}
 use Rattle.typescript_ties.specs.NamedDeclarations.{NamedDeclaration, is_sort, named_by_node, named_in}
-use Rattle.typescript_ties.specs.SimpleNames.{is_simple, before_first_taking, is_way_of, is_past_parameter}
+use Rattle.typescript_ties.specs.SimpleNames.{is_simple, before_first_taking, is_way_of}
 use Rattle.typescript_ties.specs.declared.declaration_sort.DeclarationSort.TheVariants as sort
 
 -- a reference asks for what its place asks for
 abbrev pub asks_its_way : Name → Place → Bool
 asks_its_way x q = not (is kind.IdentifierReference q.node && bytes_eq q.node.text x) || is_way_of (asked_by_reference q.path) (way_or_read q.cursor)
 
--- and for no value past a parameter
-abbrev pub asks_past_none : List NamedDeclaration → Name → Place → Bool
-asks_past_none ds x q = not ((is kind.IdentifierReference q.node && bytes_eq q.node.text x) && is_past_parameter ds x q.node q.path) || not (asked_by_reference q.path).value
-
-abbrev pub asks_at : List NamedDeclaration → Name → Step → Bool
-asks_at ds x (entering q) = asks_its_way x q && asks_past_none ds x q
-asks_at ds x _ = true
+abbrev pub asks_at : Name → Step → Bool
+asks_at x (entering q) = asks_its_way x q
+asks_at x _ = true
 
 -- no `var` of the name that the node declares passes one that has it
 abbrev pub declares_var : SourceType → Name → Place → Bool
@@ -45,5 +41,5 @@ owns_its_name_alone ds d = not (is_sort sort.FunctionName d) || list_all (λ e. 
 -- whether the name is simple
 abbrev pub is_simple_name : Tree → Name → Bool
 is_simple_name p x =
-    (list_all (λ d. not (bytes_eq d.name x) || (is_simple d && owns_its_name_alone (named_in p) d)) (named_in p) && list_all (asks_at (named_in p) x) (steps p))
+    (list_all (λ d. not (bytes_eq d.name x) || (is_simple d && owns_its_name_alone (named_in p) d)) (named_in p) && list_all (asks_at x) (steps p))
     && list_all (keeps_clear_at p.source_type (named_in p) x) (steps p)
