@@ -31,5 +31,6 @@ pub mod UntangledTies
 pub mod MergedBlocks
 pub mod SharedMembers
 pub mod EnumBodies
+pub mod IndexPlaces
 pub mod OwnMembers
 pub mod SimpleByTrial
