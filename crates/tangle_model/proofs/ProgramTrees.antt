@@ -111,3 +111,33 @@ named_expression r name items body = node r kind.Function (codes "expression") (
 -- `namespace NAME { .. }`
 abbrev pub namespace : Role → List ℕ → List Forest → Forest
 namespace r name body = node r kind.TSNamespaceDeclaration [] (binding role.Id name ∷ node role.Body kind.TSModuleBlock [] body ∷ [])
+
+-- ---- types
+
+-- a type by its name
+abbrev pub type_named : Role → List ℕ → Forest
+type_named r name = node r kind.TSTypeReference [] (reference role.Name name ∷ [])
+
+-- `typeof NAME`
+abbrev pub type_query : Role → List ℕ → Forest
+type_query r name = node r kind.TSTypeQuery [] (reference role.Name name ∷ [])
+
+-- `type NAME = VALUE`
+abbrev pub alias : List ℕ → Forest → Forest
+alias name value = node role.Body kind.TSTypeAliasDeclaration [] (binding role.Id name ∷ value ∷ [])
+
+abbrev pub infer : Role → List ℕ → Forest
+infer r name = node r kind.TSInferType [] (node role.Parameter kind.TSTypeParameter [] (binding role.Name name ∷ []) ∷ [])
+
+-- a tuple of two
+abbrev pub pair : Role → Forest → Forest → Forest
+pair r x y = node r kind.TSTupleType [] (x ∷ y ∷ [])
+
+-- `CHECK extends PART ? TRUE : FALSE`
+abbrev pub conditional : Role → List Forest → Forest
+conditional r parts = node r kind.TSConditionalType [] parts
+
+-- `<NAME extends CONSTRAINT>`
+abbrev pub type_parameter : List ℕ → Forest → Forest
+type_parameter name constraint =
+    node role.TypeParameters kind.TSTypeParameterDeclaration [] (node role.Params kind.TSTypeParameter [] (binding role.Name name ∷ constraint ∷ []) ∷ [])

@@ -1,13 +1,14 @@
 -- Trees of small programs.
-use Rattle.std.specs.Prelude.{[], ◌∷◌, codes}
+use Rattle.std.specs.Prelude.{ℕ, List, [], ◌∷◌, codes}
 use Rattle.semantic_syntax.specs.declared.source_type.Goal.TheVariants as goal
 use Rattle.semantic_syntax.specs.declared.source_type.Lang.{Lang}
 use Rattle.semantic_syntax.specs.declared.source_type.Lang.TheVariants as lang
 use Rattle.semantic_kinds.specs.declared.kind.AstType.TheVariants as kind
 use Rattle.semantic_kinds.specs.declared.role.Role.TheVariants as role
 use Rattle.semantic_kinds.specs.declared.mark.Mark.TheVariants as mark
+use Rattle.semantic_tree.specs.Forest.{Forest}
 use Rattle.semantic_tree.specs.Tree.{Tree}
-use Rattle.tangle_model.proofs.ProgramTrees.{marked, node, program, binding, block, catch_clause, declarator, declared, expression, function, function_parts, in_parentheses, mention, named_expression, namespace, number, parameter, reference, statement, variable}
+use Rattle.tangle_model.proofs.ProgramTrees.{marked, node, program, binding, block, catch_clause, declarator, declared, expression, function, function_parts, in_parentheses, mention, named_expression, namespace, number, parameter, parameters, reference, statement, variable, alias, conditional, infer, pair, type_named, type_parameter, type_query}
 
 -- `{ function f() {} } { function f() {} } f`
 abbrev pub two_blocks : Tree
@@ -315,3 +316,110 @@ outer_alias =
     ∷ namespace role.Body (codes "M")
     (node role.Body kind.TSInterfaceDeclaration [] (binding role.Id (codes "N") ∷ node role.Body kind.TSInterfaceBody [] [] ∷ []) ∷ [])
     ∷ [])
+
+-- `type X = T extends [infer U, U] ? U : V; type U = 1;`
+abbrev pub infer_beside : Tree
+infer_beside =
+    program goal.Script lang.Ts
+    (alias (codes "X")
+    (conditional role.ValueType
+    (type_named role.Check (codes "T")
+    ∷ pair role.Extends (infer role.Elements (codes "U")) (type_named role.Elements (codes "U"))
+    ∷ type_named role.True (codes "U")
+    ∷ type_named role.False (codes "V")
+    ∷ []))
+    ∷ alias (codes "U") (node role.ValueType kind.TSStringKeyword [] [])
+    ∷ [])
+
+-- `type X = A extends infer U ? B extends [U, infer V] ? [U, V] : A : A; type U = string; type V = string;`
+abbrev pub infers_in_order : Tree
+infers_in_order =
+    program goal.Script lang.Ts
+    (alias (codes "X")
+    (conditional role.ValueType
+    (type_named role.Check (codes "A")
+    ∷ infer role.Extends (codes "U")
+    ∷ conditional role.True
+    (type_named role.Check (codes "B")
+    ∷ pair role.Extends (type_named role.Elements (codes "U")) (infer role.Elements (codes "V"))
+    ∷ pair role.True (type_named role.Elements (codes "U")) (type_named role.Elements (codes "V"))
+    ∷ type_named role.False (codes "A")
+    ∷ [])
+    ∷ type_named role.False (codes "A")
+    ∷ []))
+    ∷ alias (codes "U") (node role.ValueType kind.TSStringKeyword [] [])
+    ∷ alias (codes "V") (node role.ValueType kind.TSStringKeyword [] [])
+    ∷ [])
+
+-- `type X = A extends [A extends A ? infer U : A] ? U : A;`
+abbrev pub stray_infer : Tree
+stray_infer =
+    program goal.Script lang.Ts
+    (alias (codes "X")
+    (conditional role.ValueType
+    (type_named role.Check (codes "A")
+    ∷ node role.Extends kind.TSTupleType []
+    (conditional role.Elements
+    (type_named role.Check (codes "A") ∷ type_named role.Extends (codes "A") ∷ infer role.True (codes "U") ∷ type_named role.False (codes "A") ∷ [])
+    ∷ [])
+    ∷ type_named role.True (codes "A")
+    ∷ type_named role.False (codes "A")
+    ∷ []))
+    ∷ [])
+
+-- `function f<T extends typeof a>(a) {} let a;`, and with another parameter
+abbrev pub constrained : (parameter_name : List ℕ) → Tree
+constrained parameter_name =
+    program goal.Script lang.Ts
+    (node role.Body kind.Function (codes "declaration")
+    (binding role.Id (codes "f")
+    ∷ type_parameter (codes "T") (type_query role.Constraint (codes "a"))
+    ∷ parameters (parameter parameter_name ∷ [])
+    ∷ node role.Body kind.FunctionBody [] []
+    ∷ [])
+    ∷ variable (codes "let") (codes "a")
+    ∷ [])
+
+-- `let k; let x: { [NAME: string]: typeof k };`
+abbrev pub index_signature : (parameter_name : List ℕ) → Tree
+index_signature parameter_name =
+    program goal.Script lang.Ts
+    (variable (codes "let") (codes "k")
+    ∷ declared role.Body (codes "let")
+    (binding role.Id (codes "x")
+    ∷ node role.Annotation kind.TSTypeAnnotation []
+    (node role.Element kind.TSTypeLiteral []
+    (node role.Members kind.TSIndexSignature []
+    (node role.Parameters kind.TSIndexSignatureName parameter_name
+    (node role.Annotation kind.TSTypeAnnotation [] (node role.Element kind.TSStringKeyword [] [] ∷ []) ∷ [])
+    ∷ node role.Annotation kind.TSTypeAnnotation [] (type_query role.Element (codes "k") ∷ [])
+    ∷ [])
+    ∷ [])
+    ∷ [])
+    ∷ [])
+    ∷ [])
+
+-- `function g() { for (;;) { async function f() {} } } let f;` in the language that is given
+abbrev pub inner_function : Lang → Tree
+inner_function l =
+    program goal.Script l
+    (function role.Body (codes "g") []
+    (node role.Body kind.ForStatement []
+    (block role.Body (marked (mark.Async ∷ []) role.Body kind.Function (codes "declaration") (function_parts (codes "f") [] []) ∷ []) ∷ [])
+    ∷ [])
+    ∷ variable (codes "let") (codes "f")
+    ∷ [])
+
+-- `export type { A }; export { B }; { let A; let B; } type A = string; type B = string;`
+abbrev pub exported_types : Tree
+exported_types =
+    program goal.Module lang.Ts
+    (marked (mark.TypeOnly ∷ []) role.Body kind.ExportNamedDeclaration [] (exported (codes "A") ∷ [])
+    ∷ node role.Body kind.ExportNamedDeclaration [] (exported (codes "B") ∷ [])
+    ∷ block role.Body (variable (codes "let") (codes "A") ∷ variable (codes "let") (codes "B") ∷ [])
+    ∷ alias (codes "A") (node role.ValueType kind.TSStringKeyword [] [])
+    ∷ alias (codes "B") (node role.ValueType kind.TSStringKeyword [] [])
+    ∷ [])
+  where
+    exported : List ℕ → Forest
+    exported name = node role.Specifiers kind.ExportSpecifier [] (reference role.Local name ∷ node role.Exported kind.IdentifierName name [] ∷ [])

@@ -1,11 +1,11 @@
 -- What the definitions give for small programs, by computation.
 use lib.Utf8.{encode}
 use Rattle.std.specs.Str.{chars}
-use Rattle.std.proofs.Common.{◌≡◌, [], ◌∷◌, refl}
+use Rattle.std.proofs.Common.{◌≡◌, [], ◌∷◌, codes, refl}
 use Rattle.semantic_syntax.specs.declared.source_type.Lang.TheVariants.{Js, Ts}
 use Rattle.tangle_model.specs.Tangled.{tangles}
-use Rattle.tangle_model.specs.declared.reason.Reason.TheVariants.{BlockFunction, CatchVariable, Arguments, With, Eval, FreeNamesake, MergedMember, NamespaceNamesake}
-use Rattle.tangle_model.proofs.Programs.{two_blocks, one_block, two_homes, strict_blocks, special_blocks, block_and_var, if_and_parameter, block_and_own_name, case_and_let, block_and_catch, top_functions, var_in_catch, var_beside_catch, var_arguments, reads_arguments, reference_in_with, var_in_with, with_eval, free_type, free_in_javascript, merged_namespaces, merged_enums, inner_namespace, namespace_in_another, lone_namespace, inner_alias, outer_alias}
+use Rattle.tangle_model.specs.declared.reason.Reason.TheVariants.{BlockFunction, CatchVariable, Arguments, With, Eval, FreeNamesake, MergedMember, NamespaceNamesake, InferredName, HiddenParameter, IndexParameter, SloppyFunction, ExportedType}
+use Rattle.tangle_model.proofs.Programs.{two_blocks, one_block, two_homes, strict_blocks, special_blocks, block_and_var, if_and_parameter, block_and_own_name, case_and_let, block_and_catch, top_functions, var_in_catch, var_beside_catch, var_arguments, reads_arguments, reference_in_with, var_in_with, with_eval, free_type, free_in_javascript, merged_namespaces, merged_enums, inner_namespace, namespace_in_another, lone_namespace, inner_alias, outer_alias, infer_beside, infers_in_order, stray_infer, constrained, index_signature, inner_function, exported_types}
 
 -- two block functions of one home
 row_two_blocks : tangles two_blocks ≡ record { symbol = 0; reasons = BlockFunction ∷ [] } ∷ []
@@ -146,3 +146,53 @@ row_inner_alias = refl
 row_outer_alias : tangles outer_alias ≡ []
 unfolding encode chars
 row_outer_alias = refl
+
+-- a use beside `infer`
+row_infer_beside : tangles infer_beside ≡ record { symbol = 1; reasons = InferredName ∷ [] } ∷ []
+unfolding encode chars
+row_infer_beside = refl
+
+-- uses in the true part, and in an `extends` further in
+row_infers_in_order : tangles infers_in_order ≡ []
+unfolding encode chars
+row_infers_in_order = refl
+
+-- an `infer` in another part
+row_stray_infer : tangles stray_infer ≡ record { symbol = 1; reasons = InferredName ∷ [] } ∷ []
+unfolding encode chars
+row_stray_infer = refl
+
+-- a parameter that the type parameters use
+row_hidden_parameter : tangles (constrained (codes "a")) ≡ record { symbol = 2; reasons = HiddenParameter ∷ [] } ∷ []
+unfolding encode chars
+row_hidden_parameter = refl
+
+-- a parameter of another name
+row_other_parameter : tangles (constrained (codes "b")) ≡ []
+unfolding encode chars
+row_other_parameter = refl
+
+-- the parameter of an index signature
+row_index_parameter : tangles (index_signature (codes "k")) ≡ record { symbol = 0; reasons = IndexParameter ∷ [] } ∷ []
+unfolding encode chars
+row_index_parameter = refl
+
+-- of another name
+row_other_index_parameter : tangles (index_signature (codes "j")) ≡ []
+unfolding encode chars
+row_other_index_parameter = refl
+
+-- a function in a loop of a function
+row_inner_function : tangles (inner_function Ts) ≡ record { symbol = 1; reasons = SloppyFunction ∷ [] } ∷ []
+unfolding encode chars
+row_inner_function = refl
+
+-- it is no reason in JavaScript
+row_inner_function_in_javascript : tangles (inner_function Js) ≡ []
+unfolding encode chars
+row_inner_function_in_javascript = refl
+
+-- what is exported as a type
+row_exported_types : tangles exported_types ≡ record { symbol = 0; reasons = ExportedType ∷ [] } ∷ []
+unfolding encode chars
+row_exported_types = refl

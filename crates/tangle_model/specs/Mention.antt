@@ -1,5 +1,5 @@
 -- What is noted of names, node by node in preorder.
-use Rattle.std.specs.Prelude.{ℕ, List, [], ◌∷◌, ◌++◌, Bool, ◌&&◌, not, cond, Option, Some, None, codes}
+use Rattle.std.specs.Prelude.{ℕ, ◌==◌, List, [], ◌∷◌, ◌++◌, Bool, ◌&&◌, not, cond, Option, Some, None, codes}
 use Rattle.std.specs.List.{flat_map}
 use denote.Enum.Bare.{sameb}
 use Rattle.semantic_kinds.specs.declared.kind.AstType.{AstType}
@@ -12,7 +12,7 @@ use Rattle.semantic_tree.specs.Views.{child_of}
 use Rattle.semantic_tree.specs.declared.node.Node.{Node}
 use Rattle.semantic_model.specs.Binder.{is_statement, is_special}
 use Rattle.semantic_model.specs.Step.{Step, entering, steps}
-use Rattle.tangle_model.specs.Surroundings.{around_under}
+use Rattle.tangle_model.specs.Surroundings.{around_under, around_in}
 use Rattle.tangle_model.specs.contracts.around.Declarer.{the_type as the_declarers}
 use Rattle.tangle_model.specs.declared.around.Around.{Around}
 use Rattle.tangle_model.specs.declared.around.Declarer.{Declarer}
@@ -20,7 +20,7 @@ use Rattle.tangle_model.specs.declared.around.Declarer.TheVariants as declarer
 use Rattle.tangle_model.specs.declared.what.What.{What}
 use Rattle.tangle_model.specs.declared.what.What.TheVariants as what
 
--- what is noted of a name: at its home, or of a block at the node that opens its scope
+-- what is noted of a name: at its home, of a block at the node that opens its scope, or at the outermost `extends` or index signature around
 pub record Mention : Type 0 where
   pub what : What
   pub home : ℕ
@@ -47,8 +47,15 @@ identifier_noted a name =
 abbrev pub is_block_function : Around → Node → Bool
 is_block_function a x = a.in_block && not a.is_strict && not (is_special x)
 
+-- a function declaration in a block, a loop, a `switch` or a `with` of sloppy code, which TypeScript takes out to its home
+abbrev pub is_inner_function : Around → Bool
+is_inner_function a = a.in_inner_block && not a.is_strict
+
 abbrev pub function_noted : Around → Node → Name → List Mention
-function_noted a x name = noted what.Declaration a.home name ++ noted_if (is_block_function a x) what.BlockFunction a.home name
+function_noted a x name =
+    noted what.Declaration a.home name
+    ++ noted_if (is_block_function a x) what.BlockFunction a.home name
+    ++ noted_if (is_inner_function a) what.InnerFunction a.home name
 
 abbrev pub named_noted : (Name → List Mention) → Option Node → List Mention
 named_noted f None = []
@@ -63,15 +70,35 @@ abbrev pub enum_noted : Option Node → Option Node → List Mention
 enum_noted (Some id) (Some body) = noted what.Block body.node_id id.text
 enum_noted _ _ = []
 
+-- of a reference
+abbrev pub reference_noted : Around → Name → List Mention
+reference_noted a name =
+    noted_if a.in_with what.InWith a.home name
+    ++ noted_if (not (a.extends == 0)) what.BesideInfer a.extends name
+    ++ noted_if (not (a.index_signature == 0)) what.InIndexSignature a.index_signature name
+    ++ noted_if a.in_type_parameters what.InTypeParameters a.home name
+    ++ noted_if a.exports_types what.ExportedType a.home name
+
+-- of what `infer` declares, by what is around its type parameter
+abbrev pub inferred_noted : Around → Name → List Mention
+inferred_noted a name = noted what.Inferred a.extends name ++ noted_if (not a.in_extends) what.BesideInfer a.extends name
+
+-- its name
+abbrev pub name_of_parameter : Option Node → Option Node
+name_of_parameter None = None
+name_of_parameter (Some parameter) = child_of role.Name parameter
+
 -- of a node of the kind
 abbrev pub noted_by : AstType → Around → Node → List Mention
 noted_by kind.BindingIdentifier a x = identifier_noted a x.text
-noted_by kind.IdentifierReference a x = noted_if a.in_with what.InWith a.home x.text
+noted_by kind.IdentifierReference a x = reference_noted a x.text
 noted_by kind.Function a x = declaration_noted a x
 noted_by kind.TSNamespaceDeclaration a x = named_noted (noted what.Block x.node_id) (child_of role.Id x)
 noted_by kind.TSExternalModuleDeclaration a x = named_noted (noted what.Block x.node_id) (child_of role.Id x)
 noted_by kind.TSGlobalDeclaration a x = noted what.Block x.node_id (codes "global")
 noted_by kind.TSEnumDeclaration a x = enum_noted (child_of role.Id x) (child_of role.Body x)
+noted_by kind.TSInferType a x = named_noted (inferred_noted (around_in a x)) (name_of_parameter (child_of role.Parameter x))
+noted_by kind.TSIndexSignatureName a x = noted what.IndexParameter a.index_signature x.text
 noted_by _ a x = []
 
 abbrev pub noted_at : SourceType → Step → List Mention

@@ -17,6 +17,7 @@ use Rattle.tangle_model.specs.Mention.{Mention, mentions}
 use Rattle.tangle_model.specs.Repeated.{is_mention_of, key_of, keys_of, key_stands, repeats}
 use Rattle.tangle_model.specs.declared.reason.Reason.{Reason}
 use Rattle.tangle_model.specs.declared.reason.Reason.TheVariants as reason
+use Rattle.tangle_model.specs.declared.what.What.{What}
 use Rattle.tangle_model.specs.declared.what.What.TheVariants as what
 
 -- ---- what is noted in the tree
@@ -32,6 +33,14 @@ meets_catch_name ms m = is_mention_of what.VarInCatch m && key_stands (key_of m)
 -- a `var` or a reference in a `with`, where an object may have the name (14.11.2, 9.1.1.2)
 abbrev pub is_in_with : Mention → Bool
 is_in_with m = is_mention_of what.InWith m
+
+-- in TypeScript, what `infer` declares is seen in the true part of its conditional type alone, and in the tables in `extends`, too: a use in an `extends` where one declares the name, and an `infer` that is no part of the `extends` around, may part
+abbrev pub is_beside_infer : List Mention → Mention → Bool
+is_beside_infer ms m = is_mention_of what.BesideInfer m && key_stands (key_of m) (keys_of what.Inferred ms)
+
+-- in TypeScript, the parameter of an index signature is seen in it, and in the tables nowhere
+abbrev pub is_in_own_index : List Mention → Mention → Bool
+is_in_own_index ms m = is_mention_of what.InIndexSignature m && key_stands (key_of m) (keys_of what.IndexParameter ms)
 
 -- a namespace, enum, module or `global` block of the program that another has the name of
 abbrev pub is_merged : List Mention → Mention → Bool
@@ -63,6 +72,10 @@ is_inner_alias y = (meets y.flags.bits symbol.Import.bits || meets y.flags.bits 
 abbrev pub may_be_passed : Symbol → Bool
 may_be_passed y = is_bare_namespace y || is_inner_alias y
 
+-- a parameter, or a variable that is declared by `var` outside of the root: the type parameters of its function see it in the tables, and don't in TypeScript
+abbrev pub is_inner_variable : Symbol → Bool
+is_inner_variable y = meets y.flags.bits symbol.FunctionScopedVariable.bits && not (y.scope == 0)
+
 -- ---- names
 
 abbrev pub is_name_of : List Symbol → Name → Bool
@@ -75,6 +88,9 @@ is_shared (y ∷ ys) name = cond (bytes_eq name y.name) (is_name_of ys name) (is
 
 abbrev pub any_mention : (Mention → Bool) → List Mention → Name → Bool
 any_mention test ms name = list_any (λ m. test m && bytes_eq name m.name) ms
+
+abbrev pub is_noted : What → List Mention → Name → Bool
+is_noted w ms name = any_mention (is_mention_of w) ms name
 
 abbrev pub any_symbol : (Symbol → Bool) → List Symbol → Name → Bool
 any_symbol test ys name = list_any (λ y. test y && bytes_eq name y.name) ys
@@ -89,11 +105,16 @@ holds_in s ms t reason.Eval name = any_symbol (is_seen_by_eval t) t.symbols name
 holds_in s ms t reason.FreeNamesake name = is_typescript s && is_some (lookup (bytes_eq name) t.free)
 holds_in s ms t reason.MergedMember name = any_symbol (is_merged_member ms t) t.symbols name
 holds_in s ms t reason.NamespaceNamesake name = is_typescript s && any_symbol may_be_passed t.symbols name && is_shared t.symbols name
+holds_in s ms t reason.InferredName name = is_typescript s && any_mention (is_beside_infer ms) ms name
+holds_in s ms t reason.HiddenParameter name = is_typescript s && is_noted what.InTypeParameters ms name && any_symbol is_inner_variable t.symbols name
+holds_in s ms t reason.IndexParameter name = is_typescript s && any_mention (is_in_own_index ms) ms name
+holds_in s ms t reason.SloppyFunction name = is_typescript s && is_noted what.InnerFunction ms name && is_shared t.symbols name
+holds_in s ms t reason.ExportedType name = is_typescript s && is_noted what.ExportedType ms name && is_shared t.symbols name
 
 abbrev pub all_reasons : List Reason
 all_reasons =
     reason.BlockFunction ∷ reason.CatchVariable ∷ reason.Arguments ∷ reason.With ∷ reason.Eval ∷ reason.FreeNamesake ∷ reason.MergedMember
-    ∷ reason.NamespaceNamesake ∷ []
+    ∷ reason.NamespaceNamesake ∷ reason.InferredName ∷ reason.HiddenParameter ∷ reason.IndexParameter ∷ reason.SloppyFunction ∷ reason.ExportedType ∷ []
 
 abbrev pub reasons_in : SourceType → List Mention → Tables → Name → List Reason
 reasons_in s ms t name = filter (λ r. holds_in s ms t r name) all_reasons

@@ -30,4 +30,18 @@ pub struct Around {
     pub in_with: bool,
     /// What declares the binding identifiers there.
     pub declarer: Declarer,
+    /// Whether a block, a loop, a `switch` or a `with` of the home holds the place.
+    pub in_inner_block: bool,
+    /// The part `extends` of the conditional type directly around; the root where none is.
+    pub extends_part: NodeId,
+    /// Whether the place is in the part `extends` of the innermost conditional type around.
+    pub in_extends: bool,
+    /// The outermost part `extends` that holds the place; the root where none does.
+    pub extends: NodeId,
+    /// The outermost index signature that holds the place; the root where none does.
+    pub index_signature: NodeId,
+    /// Whether a list of type parameters holds the place.
+    pub in_type_parameters: bool,
+    /// Whether a name there is exported as a type.
+    pub exports_types: bool,
 }

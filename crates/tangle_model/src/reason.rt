@@ -20,4 +20,14 @@ pub enum Reason {
     /// In TypeScript, a namespace or an alias within one has the name, and so has another symbol: a qualified name may
     /// mean either.
     NamespaceNamesake,
+    /// In TypeScript, `infer` declares the name, and it is used where its conditional type doesn't show it.
+    InferredName,
+    /// In TypeScript, the name is used in type parameters, and a parameter or another variable inside has it.
+    HiddenParameter,
+    /// In TypeScript, the name is used in an index signature whose parameter has it.
+    IndexParameter,
+    /// In TypeScript, a function in a block of sloppy code has the name, and so has another symbol.
+    SloppyFunction,
+    /// In TypeScript, the name is exported as a type, and two symbols have it.
+    ExportedType,
 }

@@ -15,4 +15,18 @@ pub enum What {
     InWith,
     /// It is the name of a namespace, enum or module, whose members are bound there.
     Block,
+    /// It is the name of a function in a block, loop, `switch` or `with` of sloppy code.
+    InnerFunction,
+    /// `infer` declares it in the outermost part `extends` there.
+    Inferred,
+    /// It is used in an `extends`, or an `infer` declares it that is no part of the `extends` around.
+    BesideInfer,
+    /// It is the parameter of an index signature.
+    IndexParameter,
+    /// It is used in an index signature.
+    InIndexSignature,
+    /// It is used in type parameters.
+    InTypeParameters,
+    /// It is exported as a type.
+    ExportedType,
 }

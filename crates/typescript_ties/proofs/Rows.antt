@@ -4,6 +4,7 @@ use lib.Utf8.{encode}
 use Rattle.std.specs.Str.{chars}
 use Rattle.std.proofs.Common.{◌≡◌, ℕ, List, [], ◌∷◌, true, false, map, codes, refl}
 use Rattle.tangle_model.specs.Tangled.{tangle_reasons}
+use Rattle.tangle_model.specs.declared.reason.Reason.TheVariants as reason
 use Rattle.typescript_ties.specs.Resolved.{Resolved, nowhere, declared_in, ResolvedUse, resolved_uses}
 use Rattle.typescript_ties.specs.ResolvedTies.{parting_uses}
 use Rattle.typescript_ties.specs.TriedNames.{is_simple_name}
@@ -284,27 +285,28 @@ decorated_parameters_a_agrees : parting_uses decorated_parameters (codes "a") �
 unfolding encode chars
 decorated_parameters_a_agrees = refl
 
-infers_U_untangled : tangle_reasons infers (codes "U") ≡ []
+-- these forms are reasons by themselves
+infers_U_tangled : tangle_reasons infers (codes "U") ≡ reason.InferredName ∷ []
 unfolding encode chars
-infers_U_untangled = refl
+infers_U_tangled = refl
 
-queries_a_untangled : tangle_reasons queries (codes "a") ≡ []
+queries_a_tangled : tangle_reasons queries (codes "a") ≡ reason.HiddenParameter ∷ []
 unfolding encode chars
-queries_a_untangled = refl
+queries_a_tangled = refl
 
-sloppy_blocks_f_untangled : tangle_reasons sloppy_blocks (codes "f") ≡ []
+sloppy_blocks_f_tangled : tangle_reasons sloppy_blocks (codes "f") ≡ reason.SloppyFunction ∷ []
 unfolding encode chars
-sloppy_blocks_f_untangled = refl
+sloppy_blocks_f_tangled = refl
 
-typed_export_inside_A_untangled : tangle_reasons typed_export_inside (codes "A") ≡ []
+typed_export_inside_A_tangled : tangle_reasons typed_export_inside (codes "A") ≡ reason.ExportedType ∷ []
 unfolding encode chars
-typed_export_inside_A_untangled = refl
+typed_export_inside_A_tangled = refl
 
-index_parameters_k_untangled : tangle_reasons index_parameters (codes "k") ≡ []
+index_parameters_k_tangled : tangle_reasons index_parameters (codes "k") ≡ reason.IndexParameter ∷ []
 unfolding encode chars
-index_parameters_k_untangled = refl
+index_parameters_k_tangled = refl
 
--- simple names and others; the first five are not tangled, the last two are as free namesakes
+-- simple names and others
 generic_class_C_simple : is_simple_name generic_class (codes "C") ≡ true
 unfolding encode chars
 generic_class_C_simple = refl
