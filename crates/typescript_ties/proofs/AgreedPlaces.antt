@@ -44,7 +44,7 @@ use Rattle.typescript_ties.specs.MeaningSets.{MeaningSet, shares_meaning, sort_m
 use Rattle.typescript_ties.specs.NamedDeclarations.{NamedDeclaration, same_sort, is_sort, named_in}
 use Rattle.typescript_ties.specs.Resolved.{Resolved, nowhere, declared_in, has_declared, declarations_in, has_meaning, resolve}
 use Rattle.typescript_ties.specs.SeenTogether.{is_in_scope, is_seen_from, bound_together, asked_together}
-use Rattle.typescript_ties.specs.SimpleNames.{is_common, is_apart, IsSimplyDeclared, HasOwnMembers, is_way_of, is_parameter_named, is_index_named, is_hidden_from, is_past_parameter}
+use Rattle.typescript_ties.specs.SimpleNames.{is_common, is_apart, IsSimplyDeclared, HasOwnMembers, is_way_of, is_parameter_named}
 use Rattle.typescript_ties.specs.contracts.declaration_sort.DeclarationSort.{the_type as the_sorts}
 use Rattle.typescript_ties.specs.declared.container_kind.ContainerKind.TheVariants as container
 use Rattle.typescript_ties.specs.declared.declaration_sort.DeclarationSort.TheVariants as sort
@@ -54,7 +54,7 @@ use Rattle.binding_laws.proofs.EnteredOnce.{entered_once}
 use Rattle.typescript_ties.proofs.FitsTogether.{any_meets, AreBoundAs, bound_as_one, is_asked, WayAsks, way_asks}
 use Rattle.typescript_ties.proofs.HeadPlaces.{IsCommonPlace, CommonStep, common_places, round_place}
 use Rattle.typescript_ties.proofs.GroupNodes.{stands_by}
-use Rattle.typescript_ties.proofs.IndexPlaces.{IsOfIndex, of_index}
+use Rattle.typescript_ties.proofs.IndexPlaces.{is_index_named, is_hidden_from, is_hidden_round, IsOfIndex, of_index}
 use Rattle.typescript_ties.proofs.OutsideGroups.{IsAside, aside_of}
 use Rattle.typescript_ties.proofs.Pairs.{container_kind_is}
 use Rattle.typescript_ties.proofs.ScopeMembers.{IsHidden, SeenAs, seen_as, free_in, SeenToo, seen_too}
@@ -193,11 +193,11 @@ module _ (p : Tree) (h : first_fault p ≡ None) (common : is_common p ≡ true)
   AgreesIn past chain cs = (asked : MeaningSet) (w : ℕ) → is_way_of asked w ≡ true → (past ≡ true → asked.value ≡ false) → Matches w (looked_up w chain) (resolve ns cs asked x)
 
   abbrev pub AgreesRound : Place → Type 0
-  AgreesRound q = AgreesIn (is_past_parameter ns x q.node q.path) q.chain (round_place p q)
+  AgreesRound q = AgreesIn (is_hidden_round ns x q.node q.path) q.chain (round_place p q)
 
   -- outside of the function, from its list of parameters
   abbrev pub AgreesOutside : Place → Type 0
-  AgreesOutside q = is_list_kind q.node.kind ≡ true → AgreesIn (is_past_parameter ns x q.node q.path) (outside q.chain) (outside_function (round_place p q))
+  AgreesOutside q = is_list_kind q.node.kind ≡ true → AgreesIn (is_hidden_round ns x q.node q.path) (outside q.chain) (outside_function (round_place p q))
 
   from_behind : (a b : Bool) (chain : List OpenScope) (cs : List Container) → (a ≡ true → b ≡ true) → AgreesIn a chain cs → AgreesIn b chain cs
   from_behind a b chain cs f h asked w is_way no_value = h asked w is_way (λ i. no_value (f i))
@@ -228,17 +228,17 @@ module _ (p : Tree) (h : first_fault p ≡ None) (common : is_common p ≡ true)
       no_other false (c ∷ l) e k = absurd cc
 
   index_kind : (d : Container) (n : NamedDeclaration) → Among n ns → has_declared d x n ≡ true → is_sort sort.IndexParameter n ≡ true → d.kind ≡ container.IndexSignature
-  index_kind d n a j i = sym (container_kind_is n.container.kind d.kind (and_first (same_container_kind n.container.kind d.kind) (same_members n.container d n.container.members d.members) (index_in d n a j i))) ∙ (of_index p h n a i).kind
+  index_kind d n a j i = sym (container_kind_is n.container.kind d.kind (and_first (same_container_kind n.container.kind d.kind) (same_members n.container d n.container.members d.members) (index_in d n a j i))) ∙ (of_index p h n a i).in_index
 
   -- the parameter of an index signature is no value that is asked for in it
-  module _ (q : Place) (node : Node) (asked : MeaningSet) (no_value : is_past_parameter ns x node (q.node ∷ q.path) ≡ true → asked.value ≡ false) where
+  module _ (q : Place) (node : Node) (asked : MeaningSet) (no_value : is_hidden_round ns x node (q.node ∷ q.path) ≡ true → asked.value ≡ false) where
     index_means_none : (d : Container) → d.node ≡ q.node.node_id → (n : NamedDeclaration) → Among n ns → has_declared d x n ≡ true → is_sort sort.IndexParameter n ≡ true → has_meaning asked n ≡ false
-    index_means_none d at n a j i = ap (λ t. shares_meaning asked (sort_meanings t)) is_index ∙ none asked.value asked.is_type asked.namespace (no_value (past_first (is_hidden_from ns x q.node node) (is_past_parameter ns x q.node q.path) hidden))
+    index_means_none d at n a j i = ap (λ t. shares_meaning asked (sort_meanings t)) is_index ∙ none asked.value asked.is_type asked.namespace (no_value (past_first (is_hidden_from ns x q.node node) (is_hidden_round ns x q.node q.path) hidden))
       where
         is_index : n.sort ≡ sort.IndexParameter
         is_index = same_true the_sorts tt n.sort sort.IndexParameter i
 
-        o : IsOfIndex n
+        o : IsOfIndex p h n
         o = of_index p h n a i
 
         here : same_container n.container d ≡ true
@@ -298,7 +298,7 @@ module _ (p : Tree) (h : first_fault p ≡ None) (common : is_common p ≡ true)
       (tells : tells_inside q.node.kind r node.kind text ≡ true) (headed : tells_header q.node.kind r node.kind text ≡ true) (inside : is_inside q.node.kind r ≡ true)
       (s : OpenScope) (opener : s.opener ≡ q.node.node_id) (header : s.in_header ≡ is_in_header q.node.kind r) (opened : IsOpened (openers (steps p)) s)
       (c : Place) (c_entered : Among (entering c) (steps p)) (c_round : round_place p c ≡ containers_by q.node.kind p.source_type q.node q.path (round_place p q) node ++ round_place p q)
-      (asked : MeaningSet) (w : ℕ) (is_way : is_way_of asked w ≡ true) (no_value : is_past_parameter ns x node (q.node ∷ q.path) ≡ true → asked.value ≡ false) where
+      (asked : MeaningSet) (w : ℕ) (is_way : is_way_of asked w ≡ true) (no_value : is_hidden_round ns x node (q.node ∷ q.path) ≡ true → asked.value ≡ false) where
     abbrev group : List Container
     group = containers_by q.node.kind p.source_type q.node q.path (round_place p q) node
 
@@ -349,14 +349,14 @@ module _ (p : Tree) (h : first_fault p ≡ None) (common : is_common p ≡ true)
     rest chain = looked_up w chain
 
     goal : (o : Option ℕ) → o ≡ looked_up w q.chain → resolve ns (group ++ outer) asked x ≡ resolve ns outer asked x → Matches w o (resolve ns (group ++ outer) asked x)
-    goal o e f = subst (λ z. Matches w z (resolve ns (group ++ outer) asked x)) (sym e) (subst (Matches w (looked_up w q.chain)) (sym f) (agree asked w is_way (λ i. no_value (past_outer (is_hidden_from ns x q.node node) (is_past_parameter ns x q.node q.path) i))))
+    goal o e f = subst (λ z. Matches w z (resolve ns (group ++ outer) asked x)) (sym e) (subst (Matches w (looked_up w q.chain)) (sym f) (agree asked w is_way (λ i. no_value (past_outer (is_hidden_from ns x q.node node) (is_hidden_round ns x q.node q.path) i))))
 
     abbrev Goal : Option Seen → Type 0
     Goal b = Matches w (symbol_by (lookup x w (record { scope = s.number; flags = s.flags; bound = b } ∷ map (asked_together p x) q.chain))) (resolve ns (group ++ outer) asked x)
 
     -- where a parameter is hidden, no value is asked for
     past_here : (n : NamedDeclaration) → Among n ns → n.name ≡ x → Hidden n → asked.value ≡ false
-    past_here n a e z = no_value (past_first (is_hidden_from ns x q.node node) (is_past_parameter ns x q.node q.path)
+    past_here n a e z = no_value (past_first (is_hidden_from ns x q.node node) (is_hidden_round ns x q.node q.path)
         (past_first (is kind.TSTypeParameterDeclaration node && list_any (is_parameter_named q.node x) ns) (list_any (is_index_named q.node x) ns) (and_from (is kind.TSTypeParameterDeclaration node) (list_any (is_parameter_named q.node x) ns) z.past (any_there (is_parameter_named q.node x) ns n a
         (and_from (is_sort sort.Parameter n) (bytes_eq n.name x && n.container.node == q.node.node_id) (ap (λ t. same_sort t sort.Parameter) z.parameter)
         (and_from (bytes_eq n.name x) (n.container.node == q.node.node_id) (elim (name_tells n.name x) [ inl j ↦ j.0 | inr j ↦ absurd (j.1 e) ]) (eq-eqb n.container.node q.node.node_id z.stands)))))))
@@ -580,7 +580,7 @@ module _ (p : Tree) (h : first_fault p ≡ None) (common : is_common p ≡ true)
 
   child_agrees : (q : Place) (entered : Among (entering q) (steps p)) (k : IsCommonPlace p q) (agree : AgreesRound q) (r : Role) (node : Node) (text : List ℕ)
       (tells : tells_inside q.node.kind r node.kind text ≡ true) (headed : tells_header q.node.kind r node.kind text ≡ true)
-      (chain : List OpenScope) → ChainOf q.node.kind r q.node q.chain chain → AllOpened table chain → (c : Place) → Among (entering c) (steps p) → c.chain ≡ chain → is_past_parameter ns x c.node c.path ≡ is_past_parameter ns x node (q.node ∷ q.path)
+      (chain : List OpenScope) → ChainOf q.node.kind r q.node q.chain chain → AllOpened table chain → (c : Place) → Among (entering c) (steps p) → c.chain ≡ chain → is_hidden_round ns x c.node c.path ≡ is_hidden_round ns x node (q.node ∷ q.path)
       → round_place p c ≡ containers_by q.node.kind p.source_type q.node q.path (round_place p q) node ++ round_place p q → AgreesRound c
   child_agrees q entered k agree r node text tells headed chain (outer_chain i) opened c c_entered e past c_round asked w is_way no_value =
       let g : List Container = containers_by q.node.kind p.source_type q.node q.path (round_place p q) node in
@@ -588,7 +588,7 @@ module _ (p : Tree) (h : first_fault p ≡ None) (common : is_common p ≡ true)
       aside_group g (round_place p q) (λ d a. aside_of p.source_type q.node node q.path (round_place p q) r q.node.kind d k.no_with i (told_by_kind q.node.kind r node.kind text tells) a) asked
       (λ d a. index_means_none q node asked (λ i. no_value (past ∙ i)) d (stands_by p.source_type q.node node q.path (round_place p q) q.node.kind d a)) in
       subst (λ l. Matches w (looked_up w l) (resolve ns (round_place p c) asked x)) (sym e)
-      (subst (λ l. Matches w (looked_up w q.chain) (resolve ns l asked x)) (sym c_round) (subst (Matches w (looked_up w q.chain)) (sym skipped) (agree asked w is_way (λ i. no_value (past ∙ past_outer (is_hidden_from ns x q.node node) (is_past_parameter ns x q.node q.path) i)))))
+      (subst (λ l. Matches w (looked_up w q.chain) (resolve ns l asked x)) (sym c_round) (subst (Matches w (looked_up w q.chain)) (sym skipped) (agree asked w is_way (λ i. no_value (past ∙ past_outer (is_hidden_from ns x q.node node) (is_hidden_round ns x q.node q.path) i)))))
   child_agrees q entered k agree r node text tells headed chain (inner_chain s i opener header lasting) opened c c_entered e past c_round asked w is_way no_value =
       subst (λ l. Matches w (looked_up w l) (resolve ns (round_place p c) asked x)) (sym e)
       (subst (λ l. Matches w (looked_up w (s ∷ q.chain)) (resolve ns l asked x)) (sym c_round)
@@ -603,13 +603,13 @@ module _ (p : Tree) (h : first_fault p ≡ None) (common : is_common p ≡ true)
     c = child_place q own cursor r node
 
     abbrev behind : Bool
-    behind = is_past_parameter ns x node (q.node ∷ q.path)
+    behind = is_hidden_round ns x node (q.node ∷ q.path)
 
-    further : is_past_parameter ns x q.node q.path ≡ true → behind ≡ true
-    further i = past_outer (is_hidden_from ns x q.node node) (is_past_parameter ns x q.node q.path) i
+    further : is_hidden_round ns x q.node q.path ≡ true → behind ≡ true
+    further i = past_outer (is_hidden_from ns x q.node node) (is_hidden_round ns x q.node q.path) i
 
     out_further : is_list_kind q.node.kind ≡ true → AgreesIn behind (outside q.chain) (outside_function (round_place p q))
-    out_further e = from_behind (is_past_parameter ns x q.node q.path) behind (outside q.chain) (outside_function (round_place p q)) further (out e)
+    out_further e = from_behind (is_hidden_round ns x q.node q.path) behind (outside q.chain) (outside_function (round_place p q)) further (out e)
 
     any_agrees : AgreesRound c
     any_agrees = elim (cases_Bool (decorated p.source_type q r node text own cursor params reached own_is)) [
@@ -618,7 +618,7 @@ module _ (p : Tree) (h : first_fault p ≡ None) (common : is_common p ≡ true)
     ]
 
     out_agrees : AgreesOutside c
-    out_agrees = child_out p.source_type q r node text own cursor params reached own_is (AgreesIn behind) out_further k.before (from_behind (is_past_parameter ns x q.node q.path) behind q.chain (round_place p q) further agree)
+    out_agrees = child_out p.source_type q r node text own cursor params reached own_is (AgreesIn behind) out_further k.before (from_behind (is_hidden_round ns x q.node q.path) behind q.chain (round_place p q) further agree)
 
     both_agree : AgreesRound c × AgreesOutside c
     both_agree = (any_agrees, out_agrees)

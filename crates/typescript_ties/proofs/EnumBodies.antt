@@ -221,3 +221,15 @@ module _ (p : Tree) where
       let parent : HasParent q y path = each_among ParentAt (steps p) (entering q) (parents_program h) a y path e in
       kind_is y.kind kind.TSIndexSignature (subst (λ j. (not (same_kind j kind.TSIndexSignatureName) || same_kind y.kind kind.TSIndexSignature) ≡ true) k
       (and_second (not (same_kind q.node.kind kind.TSEnumBody) || (same_kind y.kind kind.TSEnumDeclaration && same_role q.role role.Body)) (not (same_kind q.node.kind kind.TSIndexSignatureName) || same_kind y.kind kind.TSIndexSignature) parent.shape))
+
+  -- the node above a place was entered
+  pub record IsAbove (y : Node) (path : List Node) : Type 0 where
+    pub place : Place
+    pub entered : Among (entering place) (steps p)
+    pub node : place.node ≡ y
+    pub above : place.path ≡ path
+
+  pub above_of : first_fault p ≡ None → (q : Place) → Among (entering q) (steps p) → (y : Node) (path : List Node) → q.path ≡ y ∷ path → IsAbove y path
+  above_of h q a y path e =
+      let parent : HasParent q y path = each_among ParentAt (steps p) (entering q) (parents_program h) a y path e in
+      record { place = parent.place; entered = parent.entered; node = parent.node; above = parent.above }

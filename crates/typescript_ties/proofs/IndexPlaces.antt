@@ -1,10 +1,12 @@
 -- The parameter of an index signature belongs to that, and nothing else does.
-use Rattle.std.proofs.Common.{◌≡◌, List, [], ◌∷◌, ◌++◌, None, Bool, true, false, ◌&&◌, ◌||◌, cond, refl, sym, ap, subst, ◌∙◌, inl, inr, map, codes}
+use Rattle.std.proofs.Common.{◌≡◌, List, [], ◌∷◌, ◌++◌, None, Bool, true, false, ◌&&◌, ◌||◌, cond, refl, sym, ap, subst, ◌∙◌, inl, inr, map, codes, ◌==◌, bytes_eq}
+use Rattle.std.specs.List.{list_any}
 use Rattle.std.proofs.lemmas.Bool.{cases_Bool}
 use Rattle.semantic_kinds.specs.Kinds.{same_kind}
 use Rattle.semantic_kinds.specs.declared.kind.AstType.{AstType}
 use Rattle.semantic_kinds.specs.declared.kind.AstType.TheVariants as kind
 use Rattle.semantic_kinds.specs.declared.mark.Mark.TheVariants as mark
+use Rattle.semantic_syntax.specs.Tables.{Name}
 use Rattle.semantic_syntax.specs.declared.source_type.SourceType.{SourceType}
 use Rattle.semantic_tree.specs.Faults.{first_fault}
 use Rattle.semantic_tree.specs.Tree.{Tree}
@@ -19,14 +21,28 @@ use Rattle.semantic_model.proofs.form.Clauses.{kind_is}
 use Rattle.program_laws.proofs.DeclaredNodes.{among_flat}
 use Rattle.typescript_ties.specs.Containers.{Container, container_of, bound_container, containers, containers_by, decorates_parameter, outside_function}
 use Rattle.typescript_ties.specs.NamedDeclarations.{NamedDeclaration, is_sort, declared_outward, declared_here, leaves_its_block, namespace_sort, variables_named, named_by_node, named_at, named_in}
+use Rattle.typescript_ties.specs.SimpleNames.{is_parameter_named}
 use Rattle.typescript_ties.specs.declared.container_kind.ContainerKind.TheVariants as container
 use Rattle.typescript_ties.specs.declared.declaration_sort.DeclarationSort.TheVariants as sort
-use Rattle.typescript_ties.proofs.EnumBodies.{index_parent}
+use Rattle.typescript_ties.proofs.EnumBodies.{index_parent, IsAbove, above_of}
 use Rattle.typescript_ties.proofs.KnownPlaces.{KnownStep, known_places}
 use Rattle.typescript_ties.proofs.UndeclaredFree.{each_among}
 
 never : true ≡ false → ⊥
 never h = absurd cc
+
+-- the parameter of an index signature
+abbrev pub is_index_named : Node → Name → NamedDeclaration → Bool
+is_index_named f name d = is_sort sort.IndexParameter d && (bytes_eq d.name name && d.container.node == f.node_id)
+
+-- type parameters don't see a parameter in the language, and the tables don't know that of an index signature
+abbrev pub is_hidden_from : List NamedDeclaration → Name → Node → Node → Bool
+is_hidden_from ds name f child = (is kind.TSTypeParameterDeclaration child && list_any (is_parameter_named f name) ds) || list_any (is_index_named f name) ds
+
+-- whether a node stands where one of the name is hidden so
+abbrev pub is_hidden_round : List NamedDeclaration → Name → Node → List Node → Bool
+is_hidden_round ds name child [] = false
+is_hidden_round ds name child (f ∷ path) = is_hidden_from ds name f child || is_hidden_round ds name f path
 
 -- ---- other nodes declare no such parameter
 
@@ -79,12 +95,22 @@ module _ (s : SourceType) (x : Node) (n : NamedDeclaration) where
 
 -- ---- and what it belongs to
 
-pub record IsOfIndex (n : NamedDeclaration) : Type 0 where
-  pub kind : n.container.kind ≡ container.IndexSignature
-  pub unshared : n.container.members ≡ None
-  pub also : n.also ≡ []
-
 module _ (p : Tree) (h : first_fault p ≡ None) where
+  pub record IsOfIndex (n : NamedDeclaration) : Type 0 where
+    pub in_index : n.container.kind ≡ container.IndexSignature
+    pub unshared : n.container.members ≡ None
+    pub also : n.also ≡ []
+    -- where it is declared, and its signature
+    pub place : Place
+    pub entered : Among (entering place) (steps p)
+    pub is_name : place.node.kind ≡ kind.TSIndexSignatureName
+    pub text : place.node.text ≡ n.name
+    pub signature : Place
+    pub signature_entered : Among (entering signature) (steps p)
+    pub is_signature : signature.node.kind ≡ kind.TSIndexSignature
+    pub path : place.path ≡ signature.node ∷ signature.path
+    pub stands : n.container.node ≡ signature.node.node_id
+
   in_signature : (q : Place) → Among (entering q) (steps p) → q.node.kind ≡ kind.TSIndexSignatureName → (path : List Node) → q.path ≡ path → IsOfIndex (record { sort = sort.IndexParameter; identifier = q.node.node_id; name = q.node.text; container = bound_container false (containers p.source_type q.node path); also = [] })
   in_signature q a k [] e = absurd (let z : kind.TSIndexSignatureName ≡ kind.Program = sym k ∙ (each_among KnownStep (steps p) (entering q) (known_places p h) a).rooted e in absurd cc)
   in_signature q a k (y ∷ path) e =
@@ -94,7 +120,21 @@ module _ (p : Tree) (h : first_fault p ≡ None) where
       ap (λ b. cond b (outside_function (containers p.source_type y path)) (containers_by y.kind p.source_type y path (containers p.source_type y path) q.node ++ containers p.source_type y path)) plain
       ∙ ap (λ j. containers_by j p.source_type y path (containers p.source_type y path) q.node ++ containers p.source_type y path) is_so in
       let head : bound_container false (containers p.source_type q.node (y ∷ path)) ≡ container_of container.IndexSignature y = ap (bound_container false) round ∙ first (containers p.source_type y path) in
-      record { kind = ap (λ c. c.kind) head; unshared = ap (λ c. c.members) head; also = refl }
+      let up : IsAbove p y path = above_of p h q a y path e in
+      record {
+        in_index = ap (λ c. c.kind) head;
+        unshared = ap (λ c. c.members) head;
+        also = refl;
+        place = q;
+        entered = a;
+        is_name = k;
+        text = refl;
+        signature = up.place;
+        signature_entered = up.entered;
+        is_signature = ap (λ z. z.kind) up.node ∙ is_so;
+        path = e ∙ (λ i. sym up.node i ∷ sym up.above i);
+        stands = ap (λ c. c.node) head ∙ ap (λ z. z.node_id) (sym up.node);
+      }
     where
       first : (cs : List Container) → bound_container false (container_of container.IndexSignature y ∷ cs) ≡ container_of container.IndexSignature y
       first [] = refl

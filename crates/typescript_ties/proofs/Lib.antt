@@ -32,5 +32,6 @@ pub mod MergedBlocks
 pub mod SharedMembers
 pub mod EnumBodies
 pub mod IndexPlaces
+pub mod IndexAsks
 pub mod OwnMembers
 pub mod SimpleByTrial

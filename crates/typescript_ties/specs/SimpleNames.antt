@@ -123,20 +123,12 @@ AsksItsWays p x =
 abbrev pub is_parameter_named : Node → Name → NamedDeclaration → Bool
 is_parameter_named f name d = is_sort sort.Parameter d && (bytes_eq d.name name && d.container.node == f.node_id)
 
--- the parameter of an index signature
-abbrev pub is_index_named : Node → Name → NamedDeclaration → Bool
-is_index_named f name d = is_sort sort.IndexParameter d && (bytes_eq d.name name && d.container.node == f.node_id)
-
--- of the two, the language doesn't see the one from type parameters, and the tables don't know the other
-abbrev pub is_hidden_from : List NamedDeclaration → Name → Node → Node → Bool
-is_hidden_from ds name f child = (is kind.TSTypeParameterDeclaration child && list_any (is_parameter_named f name) ds) || list_any (is_index_named f name) ds
-
--- whether a node stands in the type parameters of something that has a parameter of the name, or in an index signature that has
+-- whether a node stands in the type parameters of something that has a parameter of the name: there the language doesn't see it
 abbrev pub is_past_parameter : List NamedDeclaration → Name → Node → List Node → Bool
 is_past_parameter ds name child [] = false
-is_past_parameter ds name child (f ∷ path) = is_hidden_from ds name f child || is_past_parameter ds name f path
+is_past_parameter ds name child (f ∷ path) = (is kind.TSTypeParameterDeclaration child && list_any (is_parameter_named f name) ds) || is_past_parameter ds name f path
 
--- no reference of the name asks for a value there, as in `<T extends typeof a>(a: T)` and `{ [k: string]: typeof k }`
+-- no reference of the name asks for a value there, as in `<T extends typeof a>(a: T)`
 abbrev pub AsksPastNoParameter : Tree → Name → Type 0
 AsksPastNoParameter p x =
     (q : Place) → Among (entering q) (steps p) → is kind.IdentifierReference q.node ≡ true → q.node.text ≡ x → is_past_parameter (named_in p) x q.node q.path ≡ true → (asked_by_reference q.path).value ≡ false
