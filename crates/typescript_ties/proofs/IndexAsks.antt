@@ -1,8 +1,7 @@
 -- No index signature is asked for its parameter by a name that isn't tangled.
 use Rattle.std.proofs.Common.{◌≡◌, ℕ, ◌==◌, List, [], ◌∷◌, ◌++◌, None, Bool, true, false, ◌&&◌, ◌||◌, not, cond, refl, sym, ap, subst, ◌∙◌, inl, inr, ◌⊎◌, bytes_eq, map, filter}
-use denote.Enum.Bare.{same_true}
 use Rattle.std.specs.List.{list_any}
-use Rattle.std.proofs.lemmas.Bool.{and_from, eq-eqb, eqb-true, not-true}
+use Rattle.std.proofs.lemmas.Bool.{and_from, eq-eqb, eqb-true}
 use Rattle.std.proofs.lemmas.Bool.Decides.{eqb_tells}
 use Rattle.semantic_syntax.proofs.Truth.{and_first, and_second}
 use Rattle.semantic_kinds.specs.declared.kind.AstType.TheVariants as kind
@@ -20,7 +19,7 @@ use Rattle.semantic_model.proofs.lists.Members.{among_left, among_right}
 use Rattle.semantic_model.proofs.once.ListedUnder.{name_tells}
 use Rattle.walk_model.proofs.once.NodeIds.{root_numbered}
 use Rattle.binding_laws.proofs.EnteredOnce.{entered_once}
-use Rattle.tangle_model.specs.Mention.{Mention, noted_by, noted_at, reference_noted, noted_if, mentions}
+use Rattle.tangle_model.specs.Mention.{Mention, noted_by, noted_at, noted_if, mentions}
 use Rattle.tangle_model.specs.Repeated.{Key, same_key, is_mention_of, key_of, keys_of, key_stands}
 use Rattle.tangle_model.specs.Surroundings.{index_signature_under, around_under}
 use Rattle.tangle_model.specs.Tangled.{is_in_own_index, any_mention}
