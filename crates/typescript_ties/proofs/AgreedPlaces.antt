@@ -1,8 +1,9 @@
 -- Place by place, what the scopes answer is what the name means in the containers.
 use Rattle.std.proofs.Common.{◌≡◌, ℕ, ◌==◌, List, [], ◌∷◌, ◌++◌, Option, Some, None, Bool, true, false, ◌&&◌, ◌||◌, cond, refl, sym, ap, subst, ◌∙◌, inl, inr, ◌⊎◌, bytes_eq, codes, map, filter}
+use denote.Enum.Bare.{same_true}
 use Rattle.std.specs.List.{list_any}
 use Rattle.std.specs.Prelude.{slice_get}
-use Rattle.std.proofs.lemmas.Bool.{cases_Bool, and_from, eq-eqb}
+use Rattle.std.proofs.lemmas.Bool.{cases_Bool, and_from, eq-eqb, eqb-true}
 use Rattle.std.proofs.lemmas.Bool.Decides.{eqb_tells}
 use Rattle.semantic_syntax.proofs.Truth.{and_first, and_second}
 use Rattle.semantic_kinds.specs.declared.kind.AstType.TheVariants as kind
@@ -38,22 +39,26 @@ use Rattle.walk_model.proofs.places.Shapes.{holds_below}
 use Rattle.semantic_model.specs.TablesOf.{made_of}
 use Rattle.binding_laws.specs.SeenDeclarations.{is_own_name, stands_before_body, is_before_body, bound_by_all}
 use Rattle.binding_laws.proofs.SymbolsAtNodes.{symbols_are_at_nodes}
-use Rattle.typescript_ties.specs.Containers.{Container, same_container_kind, same_members, same_container, no_container, outside_function, containers_by}
+use Rattle.typescript_ties.specs.Containers.{Container, MemberPath, same_container_kind, same_members, same_container, no_container, outside_function, containers_by}
 use Rattle.typescript_ties.specs.MeaningSets.{MeaningSet, shares_meaning, sort_meanings}
 use Rattle.typescript_ties.specs.NamedDeclarations.{NamedDeclaration, same_sort, is_sort, named_in}
 use Rattle.typescript_ties.specs.Resolved.{Resolved, nowhere, declared_in, has_declared, declarations_in, has_meaning, resolve}
 use Rattle.typescript_ties.specs.SeenTogether.{is_in_scope, is_seen_from, bound_together, asked_together}
 use Rattle.typescript_ties.specs.SimpleNames.{is_common, is_apart, IsSimplyDeclared, HasOwnMembers, is_way_of}
+use Rattle.typescript_ties.specs.contracts.declaration_sort.DeclarationSort.{the_type as the_sorts}
+use Rattle.typescript_ties.specs.declared.container_kind.ContainerKind.TheVariants as container
 use Rattle.typescript_ties.specs.declared.declaration_sort.DeclarationSort.TheVariants as sort
 use Rattle.binding_laws.proofs.ChildChains.{ChainOf, outer_chain, inner_chain, OwnOf, own_of}
 use Rattle.typescript_ties.proofs.ChildPlaces.{tells_inside, told_by_kind, tree_tells, tells_header, tree_headed}
 use Rattle.binding_laws.proofs.EnteredOnce.{entered_once}
 use Rattle.typescript_ties.proofs.FitsTogether.{any_meets, AreBoundAs, bound_as_one, is_asked, WayAsks, way_asks}
 use Rattle.typescript_ties.proofs.HeadPlaces.{IsCommonPlace, CommonStep, common_places, round_place}
+use Rattle.typescript_ties.proofs.GroupNodes.{stands_by}
+use Rattle.typescript_ties.proofs.IndexPlaces.{is_index_named, is_hidden_from, is_hidden_round, IsOfIndex, of_index}
 use Rattle.typescript_ties.proofs.OutsideGroups.{IsAside, aside_of}
 use Rattle.typescript_ties.proofs.Pairs.{container_kind_is}
 use Rattle.typescript_ties.proofs.PastParameters.{is_parameter_named, is_past_parameter}
-use Rattle.typescript_ties.proofs.ScopeMembers.{IsHidden, SeenAs, seen_as, SeenToo, seen_too}
+use Rattle.typescript_ties.proofs.ScopeMembers.{IsHidden, SeenAs, seen_as, free_in, SeenToo, seen_too}
 use Rattle.binding_laws.proofs.ScopeOpeners.{openers, IsOpened, AllOpened, IsPlaceOpened, places_opened, root_opener}
 use Rattle.typescript_ties.proofs.OutsidePlaces.{decorated, plain_round, plain_chain, decorator_has, child_out}
 use Rattle.typescript_ties.proofs.ParameterLists.{is_list_kind, tells_parameters, tree_parameters}
@@ -189,11 +194,11 @@ module _ (p : Tree) (h : first_fault p ≡ None) (common : is_common p ≡ true)
   AgreesIn past chain cs = (asked : MeaningSet) (w : ℕ) → is_way_of asked w ≡ true → (past ≡ true → asked.value ≡ false) → Matches w (looked_up w chain) (resolve ns cs asked x)
 
   abbrev pub AgreesRound : Place → Type 0
-  AgreesRound q = AgreesIn (is_past_parameter ns x q.node q.path) q.chain (round_place p q)
+  AgreesRound q = AgreesIn (is_hidden_round ns x q.node q.path) q.chain (round_place p q)
 
   -- outside of the function, from its list of parameters
   abbrev pub AgreesOutside : Place → Type 0
-  AgreesOutside q = is_list_kind q.node.kind ≡ true → AgreesIn (is_past_parameter ns x q.node q.path) (outside q.chain) (outside_function (round_place p q))
+  AgreesOutside q = is_list_kind q.node.kind ≡ true → AgreesIn (is_hidden_round ns x q.node q.path) (outside q.chain) (outside_function (round_place p q))
 
   from_behind : (a b : Bool) (chain : List OpenScope) (cs : List Container) → (a ≡ true → b ≡ true) → AgreesIn a chain cs → AgreesIn b chain cs
   from_behind a b chain cs f h asked w is_way no_value = h asked w is_way (λ i. no_value (f i))
@@ -206,32 +211,6 @@ module _ (p : Tree) (h : first_fault p ≡ None) (common : is_common p ≡ true)
     | inr j ↦ absurd (never (sym (and_first (bytes_eq n.name x) (same_container n.container d || list_any (λ z. same_container z d) n.also) e) ∙ j.0))
   ]
 
-  nothing_aside : (d : Container) → IsAside d → (asked : MeaningSet) → has_it ns asked x d ≡ false
-  nothing_aside d aside asked = elim (cases_Bool (has_it ns asked x d)) [
-    | inr e ↦ e
-    | inl e ↦ (let (n, a, i) = any_among (has_meaning asked) (declarations_in ns d x) e in
-        let (b, j) = among_filter (has_declared d x) ns n a in
-        absurd (none n b j))
-  ]
-    where
-      none : (n : NamedDeclaration) → Among n ns → has_declared d x n ≡ true → ⊥
-      none n b j =
-          let named : n.name ≡ x = named_x d n j in
-          let (w, both) = of_language p h common typed numbered x simply n b named in
-          let here : same_container n.container d ≡ true = left_or (same_container n.container d) (list_any (λ z. same_container z d) n.also) (and_second (bytes_eq n.name x) (same_container n.container d || list_any (λ z. same_container z d) n.also) j) (both.pair.also d aside.no_global) in
-          let same : n.container.kind ≡ d.kind = container_kind_is n.container.kind d.kind (and_first (same_container_kind n.container.kind d.kind) (same_members n.container d n.container.members d.members) here) in
-          never (sym aside.apart ∙ ap is_apart (sym same) ∙ is_not_apart n (simply.each n b named))
-        where
-          left_or : (u v : Bool) → (u || v) ≡ true → v ≡ false → u ≡ true
-          left_or true v i k = refl
-          left_or false v i k = absurd (never (sym i ∙ k))
-
-  aside_group : (g cs : List Container) → ((d : Container) → Among d g → IsAside d) → (asked : MeaningSet) → resolve ns (g ++ cs) asked x ≡ resolve ns cs asked x
-  aside_group g cs f asked = elim (in_group ns asked x g cs) [
-    | inl e ↦ e.0
-    | inr e ↦ (let (d, a, i, j) = e in absurd (never (sym i ∙ nothing_aside d (f d a) asked)))
-  ]
-
   past_outer : (a b : Bool) → b ≡ true → (a || b) ≡ true
   past_outer true b e = refl
   past_outer false b e = e
@@ -240,13 +219,87 @@ module _ (p : Tree) (h : first_fault p ≡ None) (common : is_common p ≡ true)
   past_first true b e = refl
   past_first false b e = absurd (never (sym e))
 
+  -- what has the parameter of an index signature is its container
+  index_in : (d : Container) (n : NamedDeclaration) → Among n ns → has_declared d x n ≡ true → is_sort sort.IndexParameter n ≡ true → same_container n.container d ≡ true
+  index_in d n a j i = no_other (same_container n.container d) n.also (of_index p h n a i).also (and_second (bytes_eq n.name x) (same_container n.container d || list_any (λ z. same_container z d) n.also) j)
+    where
+      no_other : (u : Bool) (l : List Container) → l ≡ [] → (u || list_any (λ z. same_container z d) l) ≡ true → u ≡ true
+      no_other true l e k = refl
+      no_other false [] e k = absurd (never (sym k))
+      no_other false (c ∷ l) e k = absurd cc
+
+  index_kind : (d : Container) (n : NamedDeclaration) → Among n ns → has_declared d x n ≡ true → is_sort sort.IndexParameter n ≡ true → d.kind ≡ container.IndexSignature
+  index_kind d n a j i = sym (container_kind_is n.container.kind d.kind (and_first (same_container_kind n.container.kind d.kind) (same_members n.container d n.container.members d.members) (index_in d n a j i))) ∙ (of_index p h n a i).in_index
+
+  -- the parameter of an index signature is no value that is asked for in it
+  module _ (q : Place) (node : Node) (asked : MeaningSet) (no_value : is_hidden_round ns x node (q.node ∷ q.path) ≡ true → asked.value ≡ false) where
+    index_means_none : (d : Container) → d.node ≡ q.node.node_id → (n : NamedDeclaration) → Among n ns → has_declared d x n ≡ true → is_sort sort.IndexParameter n ≡ true → has_meaning asked n ≡ false
+    index_means_none d at n a j i = ap (λ t. shares_meaning asked (sort_meanings t)) is_index ∙ none asked.value asked.is_type asked.namespace (no_value (past_first (is_hidden_from ns x q.node node) (is_hidden_round ns x q.node q.path) hidden))
+      where
+        is_index : n.sort ≡ sort.IndexParameter
+        is_index = same_true the_sorts tt n.sort sort.IndexParameter i
+
+        o : IsOfIndex p h n
+        o = of_index p h n a i
+
+        here : same_container n.container d ≡ true
+        here = index_in d n a j i
+
+        by_node : (l m : Option MemberPath) → l ≡ None → same_members n.container d l m ≡ true → n.container.node ≡ d.node
+        by_node None None e k = eqb-true n.container.node d.node k
+        by_node None (Some m) e k = absurd (never (sym k))
+        by_node (Some l) m e k = absurd cc
+
+        stands : n.container.node ≡ q.node.node_id
+        stands = by_node n.container.members d.members o.unshared (and_second (same_container_kind n.container.kind d.kind) (same_members n.container d n.container.members d.members) here) ∙ at
+
+        hidden : is_hidden_from ns x q.node node ≡ true
+        hidden = past_outer (is kind.TSTypeParameterDeclaration node && list_any (is_parameter_named q.node x) ns) (list_any (is_index_named q.node x) ns) (any_there (is_index_named q.node x) ns n a
+            (and_from (is_sort sort.IndexParameter n) (bytes_eq n.name x && n.container.node == q.node.node_id) i (and_from (bytes_eq n.name x) (n.container.node == q.node.node_id) (and_first (bytes_eq n.name x) (same_container n.container d || list_any (λ z. same_container z d) n.also) j) (eq-eqb n.container.node q.node.node_id stands))))
+
+        none : (a b c : Bool) → a ≡ false → ((a && true) || ((b && false) || (c && false))) ≡ false
+        none true b c k = absurd (never k)
+        none false true true k = refl
+        none false true false k = refl
+        none false false true k = refl
+        none false false false k = refl
+
+  nothing_aside : (d : Container) → IsAside d → (asked : MeaningSet) → ((n : NamedDeclaration) → Among n ns → has_declared d x n ≡ true → is_sort sort.IndexParameter n ≡ true → has_meaning asked n ≡ false) → has_it ns asked x d ≡ false
+  nothing_aside d aside asked index = elim (cases_Bool (has_it ns asked x d)) [
+    | inr e ↦ e
+    | inl e ↦ (let (n, a, i) = any_among (has_meaning asked) (declarations_in ns d x) e in
+        let (b, j) = among_filter (has_declared d x) ns n a in
+        elim (cases_Bool (is_sort sort.IndexParameter n)) [
+          | inl o ↦ absurd (never (sym i ∙ index n b j o))
+          | inr o ↦ absurd (none n b j o)
+        ])
+  ]
+    where
+      none : (n : NamedDeclaration) → Among n ns → has_declared d x n ≡ true → is_sort sort.IndexParameter n ≡ false → ⊥
+      none n b j o =
+          let named : n.name ≡ x = named_x d n j in
+          let (w, both) = of_language p h common typed numbered x simply n b named o in
+          let here : same_container n.container d ≡ true = left_or (same_container n.container d) (list_any (λ z. same_container z d) n.also) (and_second (bytes_eq n.name x) (same_container n.container d || list_any (λ z. same_container z d) n.also) j) (both.pair.also d aside.no_global) in
+          let same : n.container.kind ≡ d.kind = container_kind_is n.container.kind d.kind (and_first (same_container_kind n.container.kind d.kind) (same_members n.container d n.container.members d.members) here) in
+          never (sym aside.apart ∙ ap is_apart (sym same) ∙ is_not_apart n (simply.each n b named o))
+        where
+          left_or : (u v : Bool) → (u || v) ≡ true → v ≡ false → u ≡ true
+          left_or true v i k = refl
+          left_or false v i k = absurd (never (sym i ∙ k))
+
+  aside_group : (g cs : List Container) → ((d : Container) → Among d g → IsAside d) → (asked : MeaningSet) → ((d : Container) → Among d g → (n : NamedDeclaration) → Among n ns → has_declared d x n ≡ true → is_sort sort.IndexParameter n ≡ true → has_meaning asked n ≡ false) → resolve ns (g ++ cs) asked x ≡ resolve ns cs asked x
+  aside_group g cs f asked index = elim (in_group ns asked x g cs) [
+    | inl e ↦ e.0
+    | inr e ↦ (let (d, a, i, j) = e in absurd (never (sym i ∙ nothing_aside d (f d a) asked (index d a))))
+  ]
+
   -- ---- a child within the scope of a place
 
   module _ (q : Place) (entered : Among (entering q) (steps p)) (k : IsCommonPlace p q) (agree : AgreesRound q) (r : Role) (node : Node) (text : List ℕ)
       (tells : tells_inside q.node.kind r node.kind text ≡ true) (headed : tells_header q.node.kind r node.kind text ≡ true) (inside : is_inside q.node.kind r ≡ true)
       (s : OpenScope) (opener : s.opener ≡ q.node.node_id) (header : s.in_header ≡ is_in_header q.node.kind r) (opened : IsOpened (openers (steps p)) s)
       (c : Place) (c_entered : Among (entering c) (steps p)) (c_round : round_place p c ≡ containers_by q.node.kind p.source_type q.node q.path (round_place p q) node ++ round_place p q)
-      (asked : MeaningSet) (w : ℕ) (is_way : is_way_of asked w ≡ true) (no_value : is_past_parameter ns x node (q.node ∷ q.path) ≡ true → asked.value ≡ false) where
+      (asked : MeaningSet) (w : ℕ) (is_way : is_way_of asked w ≡ true) (no_value : is_hidden_round ns x node (q.node ∷ q.path) ≡ true → asked.value ≡ false) where
     abbrev group : List Container
     group = containers_by q.node.kind p.source_type q.node q.path (round_place p q) node
 
@@ -268,8 +321,23 @@ module _ (p : Tree) (h : first_fault p ≡ None) (common : is_common p ≡ true)
     abbrev Too : NamedDeclaration → Type 0
     Too n = SeenToo p h common typed numbered x simply alone q entered k r node text tells headed inside s opener header opened c c_entered c_round n
 
-    of_declared : (d : Container) → Among d group → (n : NamedDeclaration) → Among n (declarations_in ns d x) → Too n
-    of_declared d b n a = let (i, e) = among_filter (has_declared d x) ns n a in seen_too p h common typed numbered x simply alone q entered k r node text tells headed inside s opener header opened c c_entered c_round n i d b e
+    -- what is meant is known to the tables, and so is what the same container has beside
+    meant_other : (d : Container) → Among d group → (n : NamedDeclaration) → Among n (declarations_in ns d x) → has_meaning asked n ≡ true → is_sort sort.IndexParameter n ≡ false
+    meant_other d b n a g = elim (cases_Bool (is_sort sort.IndexParameter n)) [
+      | inr i ↦ i
+      | inl i ↦ (let (j, e) = among_filter (has_declared d x) ns n a in absurd (never (sym g ∙ index_means_none q node asked no_value d (stands_by p.source_type q.node node q.path (round_place p q) q.node.kind d b) n j e i)))
+    ]
+
+    beside_other : (d : Container) → Among d group → (n m : NamedDeclaration) → Among n (declarations_in ns d x) → is_sort sort.IndexParameter n ≡ false → Among m (declarations_in ns d x) → is_sort sort.IndexParameter m ≡ false
+    beside_other d b n m a other o = elim (cases_Bool (is_sort sort.IndexParameter m)) [
+      | inr i ↦ i
+      | inl i ↦ (let (j, e) = among_filter (has_declared d x) ns n a in
+          let (l, f) = among_filter (has_declared d x) ns m o in
+          absurd (never (sym (ap is_apart (index_kind d m l f i)) ∙ free_in p h common typed numbered x simply alone q entered k r node text tells headed inside s opener header opened c c_entered c_round n j other d b e)))
+    ]
+
+    of_declared : (d : Container) → Among d group → (n : NamedDeclaration) → Among n (declarations_in ns d x) → is_sort sort.IndexParameter n ≡ false → Too n
+    of_declared d b n a other = let (i, e) = among_filter (has_declared d x) ns n a in seen_too p h common typed numbered x simply alone q entered k r node text tells headed inside s opener header opened c c_entered c_round n i other d b e
 
     too_among : (n : NamedDeclaration) (t : Too n) → Among t.made seen
     too_among n t = filter_among (is_seen_from s x) (made_of p) t.made t.among t.seen
@@ -282,17 +350,17 @@ module _ (p : Tree) (h : first_fault p ≡ None) (common : is_common p ≡ true)
     rest chain = looked_up w chain
 
     goal : (o : Option ℕ) → o ≡ looked_up w q.chain → resolve ns (group ++ outer) asked x ≡ resolve ns outer asked x → Matches w o (resolve ns (group ++ outer) asked x)
-    goal o e f = subst (λ z. Matches w z (resolve ns (group ++ outer) asked x)) (sym e) (subst (Matches w (looked_up w q.chain)) (sym f) (agree asked w is_way (λ i. no_value (past_outer (is kind.TSTypeParameterDeclaration node && list_any (is_parameter_named q.node x) ns) (is_past_parameter ns x q.node q.path) i))))
+    goal o e f = subst (λ z. Matches w z (resolve ns (group ++ outer) asked x)) (sym e) (subst (Matches w (looked_up w q.chain)) (sym f) (agree asked w is_way (λ i. no_value (past_outer (is_hidden_from ns x q.node node) (is_hidden_round ns x q.node q.path) i))))
 
     abbrev Goal : Option Seen → Type 0
     Goal b = Matches w (symbol_by (lookup x w (record { scope = s.number; flags = s.flags; bound = b } ∷ map (asked_together p x) q.chain))) (resolve ns (group ++ outer) asked x)
 
     -- where a parameter is hidden, no value is asked for
     past_here : (n : NamedDeclaration) → Among n ns → n.name ≡ x → Hidden n → asked.value ≡ false
-    past_here n a e z = no_value (past_first (is kind.TSTypeParameterDeclaration node && list_any (is_parameter_named q.node x) ns) (is_past_parameter ns x q.node q.path)
-        (and_from (is kind.TSTypeParameterDeclaration node) (list_any (is_parameter_named q.node x) ns) z.past (any_there (is_parameter_named q.node x) ns n a
+    past_here n a e z = no_value (past_first (is_hidden_from ns x q.node node) (is_hidden_round ns x q.node q.path)
+        (past_first (is kind.TSTypeParameterDeclaration node && list_any (is_parameter_named q.node x) ns) (list_any (is_index_named q.node x) ns) (and_from (is kind.TSTypeParameterDeclaration node) (list_any (is_parameter_named q.node x) ns) z.past (any_there (is_parameter_named q.node x) ns n a
         (and_from (is_sort sort.Parameter n) (bytes_eq n.name x && n.container.node == q.node.node_id) (ap (λ t. same_sort t sort.Parameter) z.parameter)
-        (and_from (bytes_eq n.name x) (n.container.node == q.node.node_id) (elim (name_tells n.name x) [ inl j ↦ j.0 | inr j ↦ absurd (j.1 e) ]) (eq-eqb n.container.node q.node.node_id z.stands))))))
+        (and_from (bytes_eq n.name x) (n.container.node == q.node.node_id) (elim (name_tells n.name x) [ inl j ↦ j.0 | inr j ↦ absurd (j.1 e) ]) (eq-eqb n.container.node q.node.node_id z.stands)))))))
 
     hidden_means_none : (n : NamedDeclaration) → Hidden n → asked.value ≡ false → has_meaning asked n ≡ false
     hidden_means_none n z e = ap (λ t. shares_meaning asked (sort_meanings t)) z.parameter ∙ none asked.value asked.is_type asked.namespace e
@@ -310,7 +378,7 @@ module _ (p : Tree) (h : first_fault p ≡ None) (common : is_common p ≡ true)
       | inl f ↦ goal (symbol_by (lookup x w (record { scope = s.number; flags = s.flags; bound = None } ∷ map (asked_together p x) q.chain))) (next_if_none x w no_arguments s.number s.flags (map (asked_together p x) q.chain)) f.0
       | inr f ↦ (let (d, a, i, j) = f in
           let (n, b, g) = any_among (has_meaning asked) (declarations_in ns d x) i in
-          let t : Too n = of_declared d a n b in
+          let t : Too n = of_declared d a n b (meant_other d a n b g) in
           absurd (subst (Among t.made) e (too_among n t)))
     ]
 
@@ -393,10 +461,10 @@ module _ (p : Tree) (h : first_fault p ≡ None) (common : is_common p ≡ true)
           by false false false i j l e = absurd (never (sym e))
 
       -- the identifiers of the container have the symbol
-      all_have : (d : Container) → Among d group → (l : List NamedDeclaration) → ((n : NamedDeclaration) → Among n l → Among n (declarations_in ns d x)) → AllHave (map (λ n. n.identifier) l) first.symbol
+      all_have : (d : Container) → Among d group → (l : List NamedDeclaration) → ((n : NamedDeclaration) → Among n l → Among n (declarations_in ns d x) × (is_sort sort.IndexParameter n ≡ false)) → AllHave (map (λ n. n.identifier) l) first.symbol
       all_have d b [] f = tt
       all_have d b (n ∷ l) f =
-          let t : Too n = of_declared d b n (f n (inl refl)) in (
+          let t : Too n = of_declared d b n (f n (inl refl)).0 (f n (inl refl)).1 in (
             subst (λ i. symbol_at (analysis_of p) i ≡ Some first.symbol) (ap (λ z. z.identifier) t.both.told)
                 (symbols_are_at_nodes p h numbered t.made t.among ∙ ap Some (all_one t.made (subst (Among t.made) is_seen (too_among n t)))),
             all_have d b l (λ z a. f z (inr a)),
@@ -468,11 +536,11 @@ module _ (p : Tree) (h : first_fault p ≡ None) (common : is_common p ≡ true)
       when_some = elim (in_group ns asked x group outer) [
         | inr f ↦ (let (d, a, i, j) = f in
             let (n, b, g) = any_among (has_meaning asked) (declarations_in ns d x) i in
-            let t : Too n = of_declared d a n b in
+            let t : Too n = of_declared d a n b (meant_other d a n b g) in
             let is_so : is_asked asked F ≡ true = asked_up t.made (too_among n t) (meaning_is t.made n t.both ∙ g) in
             elim (cases_Bool (is_usable w F)) [
               | inl u ↦ inl (subst (Agrees (symbol_by (lookup x w (record { scope = s.number; flags = s.flags; bound = Some (record { symbol = first.symbol; flags = F }) } ∷ map (asked_together p x) q.chain)))) (sym j)
-                  (first.symbol, found_if_usable x w no_arguments s.number s.flags first.symbol F (map (asked_together p x) q.chain) u, all_have d a (declarations_in ns d x) (λ z e. e)))
+                  (first.symbol, found_if_usable x w no_arguments s.number s.flags first.symbol F (map (asked_together p x) q.chain) u, all_have d a (declarations_in ns d x) (λ z e. (e, beside_other d a n z b (meant_other d a n b g) e))))
               | inr u ↦ inr (missed is_so u)
             ])
         | inl f ↦ elim (cases_Bool (is_usable w F)) [
@@ -513,14 +581,15 @@ module _ (p : Tree) (h : first_fault p ≡ None) (common : is_common p ≡ true)
 
   child_agrees : (q : Place) (entered : Among (entering q) (steps p)) (k : IsCommonPlace p q) (agree : AgreesRound q) (r : Role) (node : Node) (text : List ℕ)
       (tells : tells_inside q.node.kind r node.kind text ≡ true) (headed : tells_header q.node.kind r node.kind text ≡ true)
-      (chain : List OpenScope) → ChainOf q.node.kind r q.node q.chain chain → AllOpened table chain → (c : Place) → Among (entering c) (steps p) → c.chain ≡ chain → is_past_parameter ns x c.node c.path ≡ is_past_parameter ns x node (q.node ∷ q.path)
+      (chain : List OpenScope) → ChainOf q.node.kind r q.node q.chain chain → AllOpened table chain → (c : Place) → Among (entering c) (steps p) → c.chain ≡ chain → is_hidden_round ns x c.node c.path ≡ is_hidden_round ns x node (q.node ∷ q.path)
       → round_place p c ≡ containers_by q.node.kind p.source_type q.node q.path (round_place p q) node ++ round_place p q → AgreesRound c
   child_agrees q entered k agree r node text tells headed chain (outer_chain i) opened c c_entered e past c_round asked w is_way no_value =
       let g : List Container = containers_by q.node.kind p.source_type q.node q.path (round_place p q) node in
       let skipped : resolve ns (g ++ round_place p q) asked x ≡ resolve ns (round_place p q) asked x =
-      aside_group g (round_place p q) (λ d a. aside_of p.source_type q.node node q.path (round_place p q) r q.node.kind d k.no_with i (told_by_kind q.node.kind r node.kind text tells) a) asked in
+      aside_group g (round_place p q) (λ d a. aside_of p.source_type q.node node q.path (round_place p q) r q.node.kind d k.no_with i (told_by_kind q.node.kind r node.kind text tells) a) asked
+      (λ d a. index_means_none q node asked (λ i. no_value (past ∙ i)) d (stands_by p.source_type q.node node q.path (round_place p q) q.node.kind d a)) in
       subst (λ l. Matches w (looked_up w l) (resolve ns (round_place p c) asked x)) (sym e)
-      (subst (λ l. Matches w (looked_up w q.chain) (resolve ns l asked x)) (sym c_round) (subst (Matches w (looked_up w q.chain)) (sym skipped) (agree asked w is_way (λ i. no_value (past ∙ past_outer (is kind.TSTypeParameterDeclaration node && list_any (is_parameter_named q.node x) ns) (is_past_parameter ns x q.node q.path) i)))))
+      (subst (λ l. Matches w (looked_up w q.chain) (resolve ns l asked x)) (sym c_round) (subst (Matches w (looked_up w q.chain)) (sym skipped) (agree asked w is_way (λ i. no_value (past ∙ past_outer (is_hidden_from ns x q.node node) (is_hidden_round ns x q.node q.path) i)))))
   child_agrees q entered k agree r node text tells headed chain (inner_chain s i opener header lasting) opened c c_entered e past c_round asked w is_way no_value =
       subst (λ l. Matches w (looked_up w l) (resolve ns (round_place p c) asked x)) (sym e)
       (subst (λ l. Matches w (looked_up w (s ∷ q.chain)) (resolve ns l asked x)) (sym c_round)
@@ -535,13 +604,13 @@ module _ (p : Tree) (h : first_fault p ≡ None) (common : is_common p ≡ true)
     c = child_place q own cursor r node
 
     abbrev behind : Bool
-    behind = is_past_parameter ns x node (q.node ∷ q.path)
+    behind = is_hidden_round ns x node (q.node ∷ q.path)
 
-    further : is_past_parameter ns x q.node q.path ≡ true → behind ≡ true
-    further i = past_outer (is kind.TSTypeParameterDeclaration node && list_any (is_parameter_named q.node x) ns) (is_past_parameter ns x q.node q.path) i
+    further : is_hidden_round ns x q.node q.path ≡ true → behind ≡ true
+    further i = past_outer (is_hidden_from ns x q.node node) (is_hidden_round ns x q.node q.path) i
 
     out_further : is_list_kind q.node.kind ≡ true → AgreesIn behind (outside q.chain) (outside_function (round_place p q))
-    out_further e = from_behind (is_past_parameter ns x q.node q.path) behind (outside q.chain) (outside_function (round_place p q)) further (out e)
+    out_further e = from_behind (is_hidden_round ns x q.node q.path) behind (outside q.chain) (outside_function (round_place p q)) further (out e)
 
     any_agrees : AgreesRound c
     any_agrees = elim (cases_Bool (decorated p.source_type q r node text own cursor params reached own_is)) [
@@ -550,7 +619,7 @@ module _ (p : Tree) (h : first_fault p ≡ None) (common : is_common p ≡ true)
     ]
 
     out_agrees : AgreesOutside c
-    out_agrees = child_out p.source_type q r node text own cursor params reached own_is (AgreesIn behind) out_further k.before (from_behind (is_past_parameter ns x q.node q.path) behind q.chain (round_place p q) further agree)
+    out_agrees = child_out p.source_type q r node text own cursor params reached own_is (AgreesIn behind) out_further k.before (from_behind (is_hidden_round ns x q.node q.path) behind q.chain (round_place p q) further agree)
 
     both_agree : AgreesRound c × AgreesOutside c
     both_agree = (any_agrees, out_agrees)
@@ -589,12 +658,18 @@ module _ (p : Tree) (h : first_fault p ≡ None) (common : is_common p ≡ true)
   root_agrees : AgreesRound (root_place p)
   root_agrees asked w is_way no_value = by (has_it ns asked x no_container) refl
     where
+      no_index : (n : NamedDeclaration) → Among n ns → has_declared no_container x n ≡ true → is_sort sort.IndexParameter n ≡ false
+      no_index n b j = elim (cases_Bool (is_sort sort.IndexParameter n)) [
+        | inr i ↦ i
+        | inl i ↦ absurd (let z : container.Globals ≡ container.IndexSignature = index_kind no_container n b j i in absurd cc)
+      ]
+
       by : (b : Bool) → has_it ns asked x no_container ≡ b → Matches w None (cond b (declared_in no_container (map (λ n. n.identifier) (declarations_in ns no_container x))) nowhere)
       by false e = inl refl
       by true e =
           let (n, a, i) = any_among (has_meaning asked) (declarations_in ns no_container x) e in
           let (b, j) = among_filter (has_declared no_container x) ns n a in
-          let (d, both) = of_language p h common typed numbered x simply n b (named_x no_container n j) in
+          let (d, both) = of_language p h common typed numbered x simply n b (named_x no_container n j) (no_index n b j) in
           let (y, made) = made_so p h common typed numbered x simply d both.among in
           inr (inr (record { free = refl; made = record { declaration = d; symbol = y }; among = made; named = ap (λ t. t.name) both.told ∙ both.named_so }))
 

@@ -1,8 +1,8 @@
--- The body of an enum stands in an enum, as its one body.
+-- The body of an enum stands in an enum, as its one body, and the parameter of an index signature in one.
 use Rattle.std.proofs.Common.{◌≡◌, ℕ, List, [], ◌∷◌, ◌++◌, Option, Some, None, Bool, true, false, ◌&&◌, ◌||◌, not, if◌then◌else◌, length, refl, sym, ap, subst, ◌∙◌, inl, inr, arith}
 use Rattle.std.specs.List.{list_all}
 use denote.Enum.Bare.{true_same}
-use Rattle.std.proofs.lemmas.Bool.{eqb-true}
+use Rattle.std.proofs.lemmas.Bool.{eqb-true, and_from}
 use Rattle.std.proofs.lemmas.List.{append-nil}
 use Rattle.semantic_syntax.proofs.Truth.{and_first, and_second}
 use Rattle.semantic_kinds.specs.Classes.{is_of}
@@ -48,10 +48,14 @@ never h = absurd cc
 -- ---- the shape
 
 abbrev is_enum_child : AstType → Role → AstType → List ℕ → Bool
-is_enum_child k r k2 text = not (same_kind k2 kind.TSEnumBody) || (same_kind k kind.TSEnumDeclaration && same_role r role.Body)
+is_enum_child k r k2 text =
+    (not (same_kind k2 kind.TSEnumBody) || (same_kind k kind.TSEnumDeclaration && same_role r role.Body))
+    && (not (same_kind k2 kind.TSIndexSignatureName) || same_kind k kind.TSIndexSignature)
 
 enum_part : AstType → List ℕ → Part → Bool
-enum_part k text part = not (is_of part.class kind.TSEnumBody text) || (same_kind k kind.TSEnumDeclaration && same_role part.role role.Body)
+enum_part k text part =
+    (not (is_of part.class kind.TSEnumBody text) || (same_kind k kind.TSEnumDeclaration && same_role part.role role.Body))
+    && (not (is_of part.class kind.TSIndexSignatureName text) || same_kind k kind.TSIndexSignature)
 
 all_enums : (k : AstType) (text : List ℕ) → list_all (enum_part k text) (parts k) ≡ true
 unfolding enum_part
@@ -60,11 +64,20 @@ all_enums _ text = refl
 
 part_enums : (k : AstType) (part : Part) (k2 : AstType) (text : List ℕ) → enum_part k text part ≡ true → is_of part.class k2 text ≡ true → is_enum_child k part.role k2 text ≡ true
 unfolding enum_part
-part_enums k part k2 text h i = by (same_kind k2 kind.TSEnumBody) refl
+part_enums k part k2 text h i =
+    and_from (not (same_kind k2 kind.TSEnumBody) || in_enum) (not (same_kind k2 kind.TSIndexSignatureName) || in_signature)
+    (of_kind kind.TSEnumBody in_enum (same_kind k2 kind.TSEnumBody) refl (and_first (not (is_of part.class kind.TSEnumBody text) || in_enum) (not (is_of part.class kind.TSIndexSignatureName text) || in_signature) h))
+    (of_kind kind.TSIndexSignatureName in_signature (same_kind k2 kind.TSIndexSignatureName) refl (and_second (not (is_of part.class kind.TSEnumBody text) || in_enum) (not (is_of part.class kind.TSIndexSignatureName text) || in_signature) h))
   where
-    by : (t : Bool) → same_kind k2 kind.TSEnumBody ≡ t → (not t || (same_kind k kind.TSEnumDeclaration && same_role part.role role.Body)) ≡ true
-    by false e = refl
-    by true e = subst (λ b. (not b || (same_kind k kind.TSEnumDeclaration && same_role part.role role.Body)) ≡ true) (subst (λ j. is_of part.class j text ≡ true) (kind_is k2 kind.TSEnumBody e) i) h
+    in_enum : Bool
+    in_enum = same_kind k kind.TSEnumDeclaration && same_role part.role role.Body
+
+    in_signature : Bool
+    in_signature = same_kind k kind.TSIndexSignature
+
+    of_kind : (j : AstType) (c t : Bool) → same_kind k2 j ≡ t → (not (is_of part.class j text) || c) ≡ true → (not t || c) ≡ true
+    of_kind j c false w v = refl
+    of_kind j c true w v = subst (λ b. (not b || c) ≡ true) (subst (λ z. is_of part.class z text ≡ true) (kind_is k2 j w) i) v
 
 tree_enums : (p : Tree) → first_fault p ≡ None → holds_below is_enum_child p.root.kind p.root.children ≡ true
 tree_enums p h = tree_holds is_enum_child (λ k. passed_hold is_enum_child (enum_part k) k (part_enums k) (parts k) (all_enums k)) p h
@@ -189,7 +202,8 @@ module _ (p : Tree) where
   pub enum_of : first_fault p ≡ None → (q : Place) → Among (entering q) (steps p) → q.node.kind ≡ kind.TSEnumBody → (y : Node) (path : List Node) → q.path ≡ y ∷ path → IsEnumOf q y
   enum_of h q a k y path e =
       let parent : HasParent q y path = each_among ParentAt (steps p) (entering q) (parents_program h) a y path e in
-      let both : (same_kind y.kind kind.TSEnumDeclaration && same_role q.role role.Body) ≡ true = subst (λ j. (not (same_kind j kind.TSEnumBody) || (same_kind y.kind kind.TSEnumDeclaration && same_role q.role role.Body)) ≡ true) k parent.shape in
+      let both : (same_kind y.kind kind.TSEnumDeclaration && same_role q.role role.Body) ≡ true = subst (λ j. (not (same_kind j kind.TSEnumBody) || (same_kind y.kind kind.TSEnumDeclaration && same_role q.role role.Body)) ≡ true) k
+      (and_first (not (same_kind q.node.kind kind.TSEnumBody) || (same_kind y.kind kind.TSEnumDeclaration && same_role q.role role.Body)) (not (same_kind q.node.kind kind.TSIndexSignatureName) || same_kind y.kind kind.TSIndexSignature) parent.shape) in
       let is_enum : y.kind ≡ kind.TSEnumDeclaration = kind_is y.kind kind.TSEnumDeclaration (and_first (same_kind y.kind kind.TSEnumDeclaration) (same_role q.role role.Body) both) in
       let in_body : Among q.node (nodes_in role.Body (trees y.children)) = subst (λ r. Among q.node (nodes_in r (trees y.children))) (role_is q.role role.Body (and_second (same_kind y.kind kind.TSEnumDeclaration) (same_role q.role role.Body) both)) parent.child in
       record {
@@ -200,3 +214,22 @@ module _ (p : Tree) where
         body = second_of_two (record { role = role.Id; count = count.One; class = class.Only kind.BindingIdentifier }) (record { role = role.Body; count = count.One; class = class.Only kind.TSEnumBody }) (trees y.children) q.node refl refl refl
             (subst (λ j. fit (parts j) (trees y.children) ≡ true) is_enum parent.fits) in_body;
       }
+
+  -- the signature of an index parameter
+  pub index_parent : first_fault p ≡ None → (q : Place) → Among (entering q) (steps p) → q.node.kind ≡ kind.TSIndexSignatureName → (y : Node) (path : List Node) → q.path ≡ y ∷ path → y.kind ≡ kind.TSIndexSignature
+  index_parent h q a k y path e =
+      let parent : HasParent q y path = each_among ParentAt (steps p) (entering q) (parents_program h) a y path e in
+      kind_is y.kind kind.TSIndexSignature (subst (λ j. (not (same_kind j kind.TSIndexSignatureName) || same_kind y.kind kind.TSIndexSignature) ≡ true) k
+      (and_second (not (same_kind q.node.kind kind.TSEnumBody) || (same_kind y.kind kind.TSEnumDeclaration && same_role q.role role.Body)) (not (same_kind q.node.kind kind.TSIndexSignatureName) || same_kind y.kind kind.TSIndexSignature) parent.shape))
+
+  -- the node above a place was entered
+  pub record IsAbove (y : Node) (path : List Node) : Type 0 where
+    pub place : Place
+    pub entered : Among (entering place) (steps p)
+    pub node : place.node ≡ y
+    pub above : place.path ≡ path
+
+  pub above_of : first_fault p ≡ None → (q : Place) → Among (entering q) (steps p) → (y : Node) (path : List Node) → q.path ≡ y ∷ path → IsAbove y path
+  above_of h q a y path e =
+      let parent : HasParent q y path = each_among ParentAt (steps p) (entering q) (parents_program h) a y path e in
+      record { place = parent.place; entered = parent.entered; node = parent.node; above = parent.above }

@@ -33,5 +33,7 @@ pub mod UntangledTies
 pub mod MergedBlocks
 pub mod SharedMembers
 pub mod EnumBodies
+pub mod IndexPlaces
+pub mod IndexAsks
 pub mod OwnMembers
 pub mod SimpleByTrial

@@ -1,7 +1,7 @@
 -- A name that isn't tangled has the members to itself among which it is one.
 use Rattle.std.proofs.Common.{◌≡◌, ℕ, ◌==◌, [], ◌∷◌, Option, Some, None, true, false, ◌&&◌, refl, sym, ap, subst, ◌∙◌, inl, inr, ◌⊎◌, bytes_eq, codes, List}
 use Rattle.std.specs.Prelude.{slice_get}
-use Rattle.std.proofs.lemmas.Bool.{and_from}
+use Rattle.std.proofs.lemmas.Bool.{and_from, cases_Bool}
 use Rattle.std.proofs.lemmas.Bool.Decides.{eqb_tells}
 use Rattle.semantic_syntax.proofs.Truth.{and_first, and_second}
 use Rattle.semantic_kinds.specs.declared.kind.AstType.TheVariants as kind
@@ -32,12 +32,14 @@ use Rattle.tangle_model.specs.Mention.{Mention, noted_by, noted_at, mentions}
 use Rattle.tangle_model.specs.Surroundings.{around_under}
 use Rattle.tangle_model.specs.Tangled.{merged_openers, is_merged_member, any_symbol}
 use Rattle.typescript_ties.specs.Containers.{Container, MemberPath, same_container_kind, same_names, same_members, same_container, path_below, containers}
-use Rattle.typescript_ties.specs.NamedDeclarations.{NamedDeclaration, named_in}
+use Rattle.typescript_ties.specs.NamedDeclarations.{NamedDeclaration, is_sort, named_in}
 use Rattle.typescript_ties.specs.SimpleNames.{is_common, is_apart, IsSimplyDeclared, HasOwnMembers}
 use Rattle.typescript_ties.specs.declared.container_kind.ContainerKind.TheVariants as container
+use Rattle.typescript_ties.specs.declared.declaration_sort.DeclarationSort.TheVariants as sort
 use Rattle.typescript_ties.proofs.AgreedPlaces.{any_there}
 use Rattle.typescript_ties.proofs.EnumBodies.{IsEnumOf, enum_of}
 use Rattle.typescript_ties.proofs.HeadPlaces.{HasOrigin, CommonStep, common_places, round_place}
+use Rattle.typescript_ties.proofs.IndexPlaces.{of_index}
 use Rattle.typescript_ties.proofs.MergedBlocks.{block_of, merged_opener, opened_node}
 use Rattle.typescript_ties.proofs.Pairs.{container_kind_is}
 use Rattle.typescript_ties.proofs.SharedMembers.{MemberSort, unshared, of_namespace, of_module, of_globals, of_enum, member_sort}
@@ -83,9 +85,9 @@ module _ (p : Tree) (h : first_fault p ≡ None) (common : is_common p ≡ true)
     named : symbol.name ≡ x
     stands : (scope_of (tables_of p) symbol.scope).node ≡ node
 
-  symbol_of : (n : NamedDeclaration) → Among n (named_in p) → n.name ≡ x → IsOf n.container.node
-  symbol_of n a e =
-      let (d, both) = of_language p h common typed numbered x simply n a e in
+  symbol_of : (n : NamedDeclaration) → Among n (named_in p) → n.name ≡ x → is_sort sort.IndexParameter n ≡ false → IsOf n.container.node
+  symbol_of n a e other =
+      let (d, both) = of_language p h common typed numbered x simply n a e other in
       let (y, made) = made_so p h common typed numbered x simply d both.among in
       let c : ℕ = d.route.target.number in
       let named : d.naming.name ≡ x = ap (λ t. t.name) both.told ∙ e in
@@ -139,19 +141,6 @@ module _ (p : Tree) (h : first_fault p ≡ None) (common : is_common p ≡ true)
     members : same_members n.container c n.container.members c.members ≡ true
     members = and_second (same_container_kind n.container.kind c.kind) (same_members n.container c n.container.members c.members) same
 
-    free : is_apart n.container.kind ≡ false
-    free = is_not_apart n (simply.each n a e)
-
-    mine : HasOrigin p n.container
-    mine = (of_language p h common typed numbered x simply n a e).1.pair.home.origin
-
-    theirs : HasOrigin p c
-    theirs = by ((each_among (CommonStep p) (steps p) (entering q) (common_places p h common numbered) entered).head.origin c there)
-      where
-        by : (is_apart c.kind ≡ true) ⊎ HasOrigin p c → HasOrigin p c
-        by (inl i) = absurd (never (sym i ∙ ap is_apart (sym kinds) ∙ free))
-        by (inr o) = o
-
     -- unshared ones are the same by their nodes
     by_node : n.container.members ≡ None → n.container.node ≡ c.node
     by_node i = by c.members (subst (λ z. same_members n.container c z c.members ≡ true) i members)
@@ -170,42 +159,60 @@ module _ (p : Tree) (h : first_fault p ≡ None) (common : is_common p ≡ true)
     names_same : (f g : MemberPath) → n.container.members ≡ Some f → c.members ≡ Some g → same_names f.names g.names ≡ true
     names_same f g i j = and_second (f.root == g.root) (same_names f.names g.names) (subst (λ z. same_members n.container c (Some f) z ≡ true) j (subst (λ z. same_members n.container c z c.members ≡ true) i members))
 
-    one_block : (name other : Name) → name ≡ other → Among (block_of mine.place.node.node_id name) (mentions p) → Among (block_of theirs.place.node.node_id other) (mentions p) → n.container.node ≡ c.node
-    one_block name other i b d =
-        mine.stands ∙ same_block mine.place.node.node_id theirs.place.node.node_id name (subst IsOf mine.stands (symbol_of n a e)) b (subst (λ z. Among (block_of theirs.place.node.node_id z) (mentions p)) (sym i) d) ∙ sym theirs.stands
+    -- by what the tables know of it
+    module _ (known : is_sort sort.IndexParameter n ≡ false) where
+      free : is_apart n.container.kind ≡ false
+      free = is_not_apart n (simply.each n a e known)
 
-    rest_same : (u v : Name) → 39 ∷ u ≡ 39 ∷ v → u ≡ v
-    rest_same u v i = cc
+      mine : HasOrigin p n.container
+      mine = (of_language p h common typed numbered x simply n a e known).1.pair.home.origin
 
-    pub same_node : n.container.node ≡ c.node
-    same_node = by (member_sort p.source_type mine.place.node mine.child mine.place.path (round_place p mine.place) mine.place.node.kind n.container mine.among) (member_sort p.source_type theirs.place.node theirs.child theirs.place.path (round_place p theirs.place) theirs.place.node.kind c theirs.among)
-      where
-        by : MemberSort mine.place.node.kind mine.place.node mine.place.path n.container → MemberSort theirs.place.node.kind theirs.place.node theirs.place.path c → n.container.node ≡ c.node
-        by (unshared i) s = by_node i
-        by (of_namespace k i id f d g) (unshared j) = by_their_node j
-        by (of_namespace k i id f d g) (of_namespace k' i' id' f' d' g') =
-            one_block id.text id'.text (first_name id.text id'.text d d' d.members d'.members (names_same (path_below id.text d d.members) (path_below id'.text d' d'.members) g g')) (namespace_noted mine.place mine.entered k id f) (namespace_noted theirs.place theirs.entered k' id' f')
-        by (of_namespace k i id f d g) (of_module k' i' id' f' d' g') = absurd (let z : container.NamespaceMembers ≡ container.ModuleMembers = sym i ∙ kinds ∙ i' in absurd cc)
-        by (of_namespace k i id f d g) (of_globals k' i') = absurd (let z : container.NamespaceMembers ≡ container.GlobalMembers = sym i ∙ kinds ∙ i' in absurd cc)
-        by (of_namespace k i id f d g) (of_enum k' i' y' a' e' id' f' d' g') = absurd (let z : container.NamespaceMembers ≡ container.EnumMembers = sym i ∙ kinds ∙ i' in absurd cc)
-        by (of_module k i id f d g) (unshared j) = by_their_node j
-        by (of_module k i id f d g) (of_module k' i' id' f' d' g') =
-            one_block id.text id'.text (rest_same id.text id'.text (first_name (39 ∷ id.text) (39 ∷ id'.text) d d' d.members d'.members (names_same (path_below (39 ∷ id.text) d d.members) (path_below (39 ∷ id'.text) d' d'.members) g g')))
-            (module_noted mine.place mine.entered k id f) (module_noted theirs.place theirs.entered k' id' f')
-        by (of_module k i id f d g) (of_namespace k' i' id' f' d' g') = absurd (let z : container.ModuleMembers ≡ container.NamespaceMembers = sym i ∙ kinds ∙ i' in absurd cc)
-        by (of_module k i id f d g) (of_globals k' i') = absurd (let z : container.ModuleMembers ≡ container.GlobalMembers = sym i ∙ kinds ∙ i' in absurd cc)
-        by (of_module k i id f d g) (of_enum k' i' y' a' e' id' f' d' g') = absurd (let z : container.ModuleMembers ≡ container.EnumMembers = sym i ∙ kinds ∙ i' in absurd cc)
-        by (of_globals k i) (unshared j) = by_their_node j
-        by (of_globals k i) (of_globals k' i') = one_block (codes "global") (codes "global") refl (global_noted mine.place mine.entered k) (global_noted theirs.place theirs.entered k')
-        by (of_globals k i) (of_namespace k' i' id' f' d' g') = absurd (let z : container.GlobalMembers ≡ container.NamespaceMembers = sym i ∙ kinds ∙ i' in absurd cc)
-        by (of_globals k i) (of_module k' i' id' f' d' g') = absurd (let z : container.GlobalMembers ≡ container.ModuleMembers = sym i ∙ kinds ∙ i' in absurd cc)
-        by (of_globals k i) (of_enum k' i' y' a' e' id' f' d' g') = absurd (let z : container.GlobalMembers ≡ container.EnumMembers = sym i ∙ kinds ∙ i' in absurd cc)
-        by (of_enum k i y a e id f d g) (unshared j) = by_their_node j
-        by (of_enum k i y a e id f d g) (of_enum k' i' y' a' e' id' f' d' g') =
-            one_block id.text id'.text (first_name id.text id'.text d d' d.members d'.members (names_same (path_below id.text d d.members) (path_below id'.text d' d'.members) g g')) (enum_noted mine.place mine.entered k y a e id f) (enum_noted theirs.place theirs.entered k' y' a' e' id' f')
-        by (of_enum k i y a e id f d g) (of_namespace k' i' id' f' d' g') = absurd (let z : container.EnumMembers ≡ container.NamespaceMembers = sym i ∙ kinds ∙ i' in absurd cc)
-        by (of_enum k i y a e id f d g) (of_module k' i' id' f' d' g') = absurd (let z : container.EnumMembers ≡ container.ModuleMembers = sym i ∙ kinds ∙ i' in absurd cc)
-        by (of_enum k i y a e id f d g) (of_globals k' i') = absurd (let z : container.EnumMembers ≡ container.GlobalMembers = sym i ∙ kinds ∙ i' in absurd cc)
+      theirs : HasOrigin p c
+      theirs = by ((each_among (CommonStep p) (steps p) (entering q) (common_places p h common numbered) entered).head.origin c there)
+        where
+          by : (is_apart c.kind ≡ true) ⊎ HasOrigin p c → HasOrigin p c
+          by (inl i) = absurd (never (sym i ∙ ap is_apart (sym kinds) ∙ free))
+          by (inr o) = o
+
+      one_block : (name other : Name) → name ≡ other → Among (block_of mine.place.node.node_id name) (mentions p) → Among (block_of theirs.place.node.node_id other) (mentions p) → n.container.node ≡ c.node
+      one_block name other i b d =
+          mine.stands ∙ same_block mine.place.node.node_id theirs.place.node.node_id name (subst IsOf mine.stands (symbol_of n a e known)) b (subst (λ z. Among (block_of theirs.place.node.node_id z) (mentions p)) (sym i) d) ∙ sym theirs.stands
+
+      rest_same : (u v : Name) → 39 ∷ u ≡ 39 ∷ v → u ≡ v
+      rest_same u v i = cc
+
+      pub same_node : n.container.node ≡ c.node
+      same_node = by (member_sort p.source_type mine.place.node mine.child mine.place.path (round_place p mine.place) mine.place.node.kind n.container mine.among) (member_sort p.source_type theirs.place.node theirs.child theirs.place.path (round_place p theirs.place) theirs.place.node.kind c theirs.among)
+        where
+          by : MemberSort mine.place.node.kind mine.place.node mine.place.path n.container → MemberSort theirs.place.node.kind theirs.place.node theirs.place.path c → n.container.node ≡ c.node
+          by (unshared i) s = by_node i
+          by (of_namespace k i id f d g) (unshared j) = by_their_node j
+          by (of_namespace k i id f d g) (of_namespace k' i' id' f' d' g') =
+              one_block id.text id'.text (first_name id.text id'.text d d' d.members d'.members (names_same (path_below id.text d d.members) (path_below id'.text d' d'.members) g g')) (namespace_noted mine.place mine.entered k id f) (namespace_noted theirs.place theirs.entered k' id' f')
+          by (of_namespace k i id f d g) (of_module k' i' id' f' d' g') = absurd (let z : container.NamespaceMembers ≡ container.ModuleMembers = sym i ∙ kinds ∙ i' in absurd cc)
+          by (of_namespace k i id f d g) (of_globals k' i') = absurd (let z : container.NamespaceMembers ≡ container.GlobalMembers = sym i ∙ kinds ∙ i' in absurd cc)
+          by (of_namespace k i id f d g) (of_enum k' i' y' a' e' id' f' d' g') = absurd (let z : container.NamespaceMembers ≡ container.EnumMembers = sym i ∙ kinds ∙ i' in absurd cc)
+          by (of_module k i id f d g) (unshared j) = by_their_node j
+          by (of_module k i id f d g) (of_module k' i' id' f' d' g') =
+              one_block id.text id'.text (rest_same id.text id'.text (first_name (39 ∷ id.text) (39 ∷ id'.text) d d' d.members d'.members (names_same (path_below (39 ∷ id.text) d d.members) (path_below (39 ∷ id'.text) d' d'.members) g g')))
+              (module_noted mine.place mine.entered k id f) (module_noted theirs.place theirs.entered k' id' f')
+          by (of_module k i id f d g) (of_namespace k' i' id' f' d' g') = absurd (let z : container.ModuleMembers ≡ container.NamespaceMembers = sym i ∙ kinds ∙ i' in absurd cc)
+          by (of_module k i id f d g) (of_globals k' i') = absurd (let z : container.ModuleMembers ≡ container.GlobalMembers = sym i ∙ kinds ∙ i' in absurd cc)
+          by (of_module k i id f d g) (of_enum k' i' y' a' e' id' f' d' g') = absurd (let z : container.ModuleMembers ≡ container.EnumMembers = sym i ∙ kinds ∙ i' in absurd cc)
+          by (of_globals k i) (unshared j) = by_their_node j
+          by (of_globals k i) (of_globals k' i') = one_block (codes "global") (codes "global") refl (global_noted mine.place mine.entered k) (global_noted theirs.place theirs.entered k')
+          by (of_globals k i) (of_namespace k' i' id' f' d' g') = absurd (let z : container.GlobalMembers ≡ container.NamespaceMembers = sym i ∙ kinds ∙ i' in absurd cc)
+          by (of_globals k i) (of_module k' i' id' f' d' g') = absurd (let z : container.GlobalMembers ≡ container.ModuleMembers = sym i ∙ kinds ∙ i' in absurd cc)
+          by (of_globals k i) (of_enum k' i' y' a' e' id' f' d' g') = absurd (let z : container.GlobalMembers ≡ container.EnumMembers = sym i ∙ kinds ∙ i' in absurd cc)
+          by (of_enum k i y a e id f d g) (unshared j) = by_their_node j
+          by (of_enum k i y a e id f d g) (of_enum k' i' y' a' e' id' f' d' g') =
+              one_block id.text id'.text (first_name id.text id'.text d d' d.members d'.members (names_same (path_below id.text d d.members) (path_below id'.text d' d'.members) g g')) (enum_noted mine.place mine.entered k y a e id f) (enum_noted theirs.place theirs.entered k' y' a' e' id' f')
+          by (of_enum k i y a e id f d g) (of_namespace k' i' id' f' d' g') = absurd (let z : container.EnumMembers ≡ container.NamespaceMembers = sym i ∙ kinds ∙ i' in absurd cc)
+          by (of_enum k i y a e id f d g) (of_module k' i' id' f' d' g') = absurd (let z : container.EnumMembers ≡ container.ModuleMembers = sym i ∙ kinds ∙ i' in absurd cc)
+          by (of_enum k i y a e id f d g) (of_globals k' i') = absurd (let z : container.EnumMembers ≡ container.GlobalMembers = sym i ∙ kinds ∙ i' in absurd cc)
 
   pub own_members : HasOwnMembers p x
-  own_members n a e q entered c there same = same_node n a e q entered c there same
+  own_members n a e q entered c there same = elim (cases_Bool (is_sort sort.IndexParameter n)) [
+    | inl i ↦ by_node n a e q entered c there same (of_index p h n a i).unshared
+    | inr i ↦ same_node n a e q entered c there same i
+  ]

@@ -371,9 +371,9 @@ sloppy_blocks_f_not_simple : is_simple_name sloppy_blocks (codes "f") ≡ false
 unfolding encode chars
 sloppy_blocks_f_not_simple = refl
 
-index_parameters_k_not_simple : is_simple_name index_parameters (codes "k") ≡ false
+index_parameters_k_simple : is_simple_name index_parameters (codes "k") ≡ true
 unfolding encode chars
-index_parameters_k_not_simple = refl
+index_parameters_k_simple = refl
 
 typed_export_A_not_simple : is_simple_name typed_export (codes "A") ≡ false
 unfolding encode chars

@@ -26,7 +26,7 @@ use Rattle.semantic_model.specs.TablesOf.{made_of}
 use Rattle.binding_laws.specs.SeenDeclarations.{is_own_name, stands_before_body, is_before_body}
 use Rattle.binding_laws.proofs.EnteredOnce.{entered_once}
 use Rattle.typescript_ties.specs.Containers.{Container, MemberPath, same_container_kind, same_names, same_members, same_container, is_container, is_of_signature, containers_by}
-use Rattle.typescript_ties.specs.NamedDeclarations.{NamedDeclaration, named_in}
+use Rattle.typescript_ties.specs.NamedDeclarations.{NamedDeclaration, is_sort, named_in}
 use Rattle.typescript_ties.specs.Resolved.{has_declared}
 use Rattle.typescript_ties.specs.SeenTogether.{is_in_scope, is_seen_from}
 use Rattle.typescript_ties.specs.SimpleNames.{is_common, is_apart, is_simple, IsSimplyDeclared, HasOwnMembers}
@@ -157,7 +157,7 @@ module _ (p : Tree) (h : first_fault p ≡ None) (common : is_common p ≡ true)
         record {
           named = n;
           both = both;
-          there = in_or_hidden n (simply.each n both.named both.named_so) (sym both.pair.home.opener ∙ same ∙ opener) both.pair.home.origin (λ i. not_headed s.in_header f.1 (both.pair.home.in_body i) (in_no_body m n both i));
+          there = in_or_hidden n (simply.each n both.named both.named_so both.other) (sym both.pair.home.opener ∙ same ∙ opener) both.pair.home.origin (λ i. not_headed s.in_header f.1 (both.pair.home.in_body i) (in_no_body m n both i));
           has = and_from (bytes_eq n.name x) (same_container n.container n.container || list_any (λ d. same_container d n.container) n.also) (elim (name_tells n.name x) [ inl j ↦ j.0 | inr j ↦ absurd (j.1 both.named_so) ]) (ap (λ b. b || list_any (λ d. same_container d n.container) n.also) (container_self n.container));
           number = number;
           name = f.0;
@@ -183,17 +183,29 @@ module _ (p : Tree) (h : first_fault p ≡ None) (common : is_common p ≡ true)
       pub both : Both made.declaration n
       pub seen : is_seen_from s x made ≡ true
 
-    pub seen_too : (n : NamedDeclaration) → Among n (named_in p) → (d : Container) → Among d group → has_declared d x n ≡ true → SeenToo n
-    seen_too n a d b e =
+    -- a container of the child that has one is none apart
+    pub free_in : (n : NamedDeclaration) → Among n (named_in p) → is_sort sort.IndexParameter n ≡ false → (d : Container) → Among d group → has_declared d x n ≡ true → is_apart d.kind ≡ false
+    free_in n a other d b e =
         let named : n.name ≡ x = elim (name_tells n.name x) [ inl j ↦ j.1 | inr j ↦ absurd (never (sym (and_first (bytes_eq n.name x) (same_container n.container d || list_any (λ z. same_container z d) n.also) e) ∙ j.0)) ] in
-        let (w, both) = of_language p h common typed numbered x simply n a named in
+        let both : Both (of_language p h common typed numbered x simply n a named other).0 n = (of_language p h common typed numbered x simply n a named other).1 in
+        let here : same_container n.container d ≡ true = first_of (same_container n.container d) (list_any (λ z. same_container z d) n.also) (and_second (bytes_eq n.name x) (same_container n.container d || list_any (λ z. same_container z d) n.also) e) (both.pair.also d (member node d b).no_global) in
+        subst (λ z. is_apart z ≡ false) (container_kind_is n.container.kind d.kind (and_first (same_container_kind n.container.kind d.kind) (same_members n.container d n.container.members d.members) here)) (is_not_apart n (simply.each n a named other))
+      where
+        first_of : (u v : Bool) → (u || v) ≡ true → v ≡ false → u ≡ true
+        first_of true v i j = refl
+        first_of false v i j = absurd (never (sym i ∙ j))
+
+    pub seen_too : (n : NamedDeclaration) → Among n (named_in p) → is_sort sort.IndexParameter n ≡ false → (d : Container) → Among d group → has_declared d x n ≡ true → SeenToo n
+    seen_too n a other d b e =
+        let named : n.name ≡ x = elim (name_tells n.name x) [ inl j ↦ j.1 | inr j ↦ absurd (never (sym (and_first (bytes_eq n.name x) (same_container n.container d || list_any (λ z. same_container z d) n.also) e) ∙ j.0)) ] in
+        let (w, both) = of_language p h common typed numbered x simply n a named other in
         let m : Member node d = member node d b in
         let here : same_container n.container d ≡ true = left_or (same_container n.container d) (list_any (λ z. same_container z d) n.also) (and_second (bytes_eq n.name x) (same_container n.container d || list_any (λ z. same_container z d) n.also) e) (both.pair.also d m.no_global) in
         let same_node : n.container.node ≡ d.node = alone n a named c c_entered d (subst (Among d) (sym c_round) (left_among d group (round_place p q) b)) here in
         let same_kinds : n.container.kind ≡ d.kind = container_kind_is n.container.kind d.kind (and_first (same_container_kind n.container.kind d.kind) (same_members n.container d n.container.members d.members) here) in
         let at_node : n.container.node ≡ q.node.node_id = same_node ∙ m.node in
         let number : w.route.target.number ≡ s.number = one_scope p numbered w.route.target s both.opened opened (both.pair.home.opener ∙ at_node ∙ sym opener) in
-        let free : is_apart n.container.kind ≡ false = is_not_apart n (simply.each n a named) in
+        let free : is_apart n.container.kind ≡ false = is_not_apart n (simply.each n a named other) in
         let (y, made) = made_so p h common typed numbered x simply w both.among in
         record {
           made = record { declaration = w; symbol = y };

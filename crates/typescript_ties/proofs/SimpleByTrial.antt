@@ -33,7 +33,7 @@ implied false b h e = absurd (never (sym e))
 
 module _ (p : Tree) (x : Name) (tried : is_simple_name p x ≡ true) where
   abbrev all_declared : Bool
-  all_declared = list_all (λ z. not (bytes_eq z.name x) || (is_simple z && owns_its_name_alone (named_in p) z)) (named_in p)
+  all_declared = list_all (λ z. not (bytes_eq z.name x) || (is_sort sort.IndexParameter z || (is_simple z && owns_its_name_alone (named_in p) z))) (named_in p)
 
   abbrev all_asked : Bool
   all_asked = list_all (asks_at x) (steps p)
@@ -56,15 +56,19 @@ module _ (p : Tree) (x : Name) (tried : is_simple_name p x ≡ true) where
       let apart : stands_apart passed n ≡ true = implied (bytes_eq n.name x) (stands_apart passed n) (all_among (λ m. not (bytes_eq m.name x) || stands_apart passed m) (named_in p) n each among) (named_x n.name is_n) in
       never (sym (all_among (λ d. not (n.container.node == d.node)) passed c apart there) ∙ ap not (eq-eqb n.container.node c.node same))
 
-  declared : (d : NamedDeclaration) → Among d (named_in p) → d.name ≡ x → (is_simple d && owns_its_name_alone (named_in p) d) ≡ true
-  declared d a e =
-      implied (bytes_eq d.name x) (is_simple d && owns_its_name_alone (named_in p) d)
-      (all_among (λ z. not (bytes_eq z.name x) || (is_simple z && owns_its_name_alone (named_in p) z)) (named_in p) d (and_first all_declared all_asked both) a) (named_x d.name e)
+  or_second : (a b : Bool) → a ≡ false → (a || b) ≡ true → b ≡ true
+  or_second true b e h = absurd (never e)
+  or_second false b e h = h
+
+  declared : (d : NamedDeclaration) → Among d (named_in p) → d.name ≡ x → is_sort sort.IndexParameter d ≡ false → (is_simple d && owns_its_name_alone (named_in p) d) ≡ true
+  declared d a e o = or_second (is_sort sort.IndexParameter d) (is_simple d && owns_its_name_alone (named_in p) d) o
+      (implied (bytes_eq d.name x) (is_sort sort.IndexParameter d || (is_simple d && owns_its_name_alone (named_in p) d))
+      (all_among (λ z. not (bytes_eq z.name x) || (is_sort sort.IndexParameter z || (is_simple z && owns_its_name_alone (named_in p) z))) (named_in p) d (and_first all_declared all_asked both) a) (named_x d.name e))
 
   own_alone : OwnNamesStandAlone p x
   own_alone d e a b i j k at =
       let each : list_all (λ z. not (bytes_eq z.name d.name && z.container.node == d.container.node) || z.identifier == d.identifier) (named_in p) ≡ true =
-      implied (is_sort sort.FunctionName d) (list_all (λ z. not (bytes_eq z.name d.name && z.container.node == d.container.node) || z.identifier == d.identifier) (named_in p)) (and_second (is_simple d) (owns_its_name_alone (named_in p) d) (declared d a i)) (ap (λ t. same_sort t sort.FunctionName) k) in
+      implied (is_sort sort.FunctionName d) (list_all (λ z. not (bytes_eq z.name d.name && z.container.node == d.container.node) || z.identifier == d.identifier) (named_in p)) (and_second (is_simple d) (owns_its_name_alone (named_in p) d) (declared d a i (ap (λ t. same_sort t sort.IndexParameter) k))) (ap (λ t. same_sort t sort.FunctionName) k) in
       let same : bytes_eq e.name d.name ≡ true = subst (λ z. bytes_eq e.name z ≡ true) (sym i) (named_x e.name j) in
       let one : (e.identifier == d.identifier) ≡ true = implied (bytes_eq e.name d.name && e.container.node == d.container.node) (e.identifier == d.identifier)
       (all_among (λ z. not (bytes_eq z.name d.name && z.container.node == d.container.node) || z.identifier == d.identifier) (named_in p) e each b) (and_from (bytes_eq e.name d.name) (e.container.node == d.container.node) same (eq-eqb e.container.node d.container.node at)) in
@@ -72,7 +76,7 @@ module _ (p : Tree) (x : Name) (tried : is_simple_name p x ≡ true) where
 
   pub simple_name : IsSimpleName p x
   simple_name = record {
-    simply = record { each = λ d a e. and_first (is_simple d) (owns_its_name_alone (named_in p) d) (declared d a e); clear = keeps_clear; own = own_alone };
+    simply = record { each = λ d a e o. and_first (is_simple d) (owns_its_name_alone (named_in p) d) (declared d a e o); clear = keeps_clear; own = own_alone };
     ways = λ q entered refers is_x. implied (is kind.IdentifierReference q.node && bytes_eq q.node.text x) (is_way_of (asked_by_reference q.path) (way_or_read q.cursor))
         (all_among (asks_at x) (steps p) (entering q) (and_second all_declared all_asked both) entered) (and_from (is kind.IdentifierReference q.node) (bytes_eq q.node.text x) refers (named_x q.node.text is_x));
   }

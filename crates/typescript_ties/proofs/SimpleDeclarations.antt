@@ -31,10 +31,11 @@ use Rattle.program_laws.proofs.DeclaredNodes.{among_flat}
 use Rattle.semantic_model.specs.TablesOf.{made_of}
 use Rattle.binding_laws.specs.SeenDeclarations.{is_own_name}
 use Rattle.typescript_ties.specs.DeclaredNames.{told_to_tables, told_by_language}
-use Rattle.typescript_ties.specs.NamedDeclarations.{NamedDeclaration, named_by_node, named_at, named_in}
+use Rattle.typescript_ties.specs.NamedDeclarations.{NamedDeclaration, is_sort, named_by_node, named_at, named_in}
 use Rattle.typescript_ties.specs.SimpleNames.{is_common, is_simple_sort, is_simple, IsSimplyDeclared}
 use Rattle.typescript_ties.specs.declared.declaration_sort.DeclarationSort.TheVariants as sort
 use Rattle.typescript_ties.proofs.HeadPlaces.{IsCommonPlace, CommonStep, common_places}
+use Rattle.typescript_ties.proofs.IndexPlaces.{other_sort}
 use Rattle.typescript_ties.proofs.KnownPlaces.{IsKnownPlace, KnownStep, known_places}
 use Rattle.typescript_ties.proofs.OwnScopes.{among_opened, OwnScope, OwnStep, own_program}
 use Rattle.typescript_ties.proofs.Pairs.{IsPassedAs, WayOf, stays, goes_out, IsSimplePair, AllPairs, map_among, pair_of_written, pair_of_named, pairs_by}
@@ -97,6 +98,7 @@ module _ (p : Tree) (h : first_fault p ≡ None) (common : is_common p ≡ true)
     pub among : Among d all
     pub named : Among n (named_in p)
     pub named_so : n.name ≡ x
+    pub other : is_sort sort.IndexParameter n ≡ false
     pub told : told_to_tables d ≡ told_by_language n
     pub pair : IsSimplePair p d n
     pub opened : IsOpened (openers (steps p)) d.route.target
@@ -159,13 +161,15 @@ module _ (p : Tree) (h : first_fault p ≡ None) (common : is_common p ≡ true)
       let same_name : w.written.naming.name ≡ x = ap (λ z. z.name) (w.naming_same) ∙ e in
       let among : Among n (named_in p) = named_among p (steps p) w.place n w.entered b in
       let named : n.name ≡ x = named_of w.written n c.told same_name in
-      let simple : IsSimplePair p w.written n = c.simple (simply.each n among named) in
+      let other : is_sort sort.IndexParameter n ≡ false = other_sort p.source_type w.place.node n w.place.path w.place.node.kind (not_index w.place o.count w.written o.among) b in
+      let simple : IsSimplePair p w.written n = c.simple (simply.each n among named other) in
       let same : w.written ≡ d = sym (stays_placed w.written n simple.how) ∙ w.is_placed in (
         n,
         record {
           among = a;
           named = among;
           named_so = named;
+          other = other;
           told = subst (λ z. told_to_tables z ≡ told_by_language n) same c.told;
           pair = subst (λ z. IsSimplePair p z n) same simple;
           opened = subst (λ z. IsOpened (openers (steps p)) z.route.target) same simple.home.opened;
@@ -184,11 +188,11 @@ module _ (p : Tree) (h : first_fault p ≡ None) (common : is_common p ≡ true)
       go (closing q o) b c = absurd c
       go (leaving q) b c = absurd c
 
-  pub of_language : (n : NamedDeclaration) → Among n (named_in p) → n.name ≡ x → (d : Declaration) × IsBoth d n
-  of_language n a e =
+  pub of_language : (n : NamedDeclaration) → Among n (named_in p) → n.name ≡ x → is_sort sort.IndexParameter n ≡ false → (d : Declaration) × IsBoth d n
+  of_language n a e other =
       let (q, entered, b) = entered_of n (steps p) a in
       let k : IsKnownPlace q = known_at q entered in
-      let is_so : is_simple n ≡ true = simply.each n a e in
+      let is_so : is_simple n ≡ true = simply.each n a e other in
       let indexed : same_kind q.node.kind kind.TSIndexSignatureName ≡ false = no_index q n q.node.kind b is_so in
       let o : OwnCount q = own_count q entered in
       let own : OpenScope = opened_scope q o.count in
@@ -207,6 +211,7 @@ module _ (p : Tree) (h : first_fault p ≡ None) (common : is_common p ≡ true)
           among = subst (λ z. Among z all) (stays_placed w n simple.how) among;
           named = a;
           named_so = e;
+          other = other;
           told = c.told;
           pair = simple;
           opened = simple.home.opened;

@@ -45,7 +45,7 @@ use Rattle.program_laws.specs.SymbolNames.{IsNamed}
 use Rattle.program_laws.proofs.TiedNames.{ties_have_names, declarations_have_names}
 use Rattle.binding_laws.specs.SeenDeclarations.{seen_alone, with_declaration, bound_by_all, is_before_body, stands_before_body}
 use Rattle.tangle_model.specs.Mention.{mentions}
-use Rattle.tangle_model.specs.Tangled.{is_bare_namespace, is_inner_alias, may_be_passed, is_merged_member, is_name_of, is_shared, any_symbol, holds_in, all_reasons, tangle_reasons}
+use Rattle.tangle_model.specs.Tangled.{is_bare_namespace, is_inner_alias, may_be_passed, is_merged_member, is_name_of, is_shared, any_symbol, any_mention, is_in_own_index, holds_in, all_reasons, tangle_reasons}
 use Rattle.tangle_model.specs.declared.reason.Reason.{Reason}
 use Rattle.tangle_model.specs.declared.reason.Reason.TheVariants as reason
 use Rattle.typescript_ties.specs.AskedMeanings.{asked_by_reference}
@@ -58,7 +58,9 @@ use Rattle.typescript_ties.proofs.AgreedPlaces.{Agrees, AllHave, IsMissed, Match
 use Rattle.typescript_ties.proofs.FitsTogether.{meets_union, meets_mask}
 use Rattle.typescript_ties.proofs.HiddenParameters.{asks_past_none}
 use Rattle.typescript_ties.proofs.HeadPlaces.{round_place}
+use Rattle.typescript_ties.proofs.IndexAsks.{under_index, hidden_cases, asks_no_index}
 use Rattle.typescript_ties.proofs.OwnMembers.{own_members}
+use Rattle.typescript_ties.proofs.PastParameters.{is_past_parameter}
 use Rattle.typescript_ties.proofs.ClearFold.{ClearState}
 use Rattle.typescript_ties.proofs.ClearTies.{clearly_tied}
 use Rattle.typescript_ties.proofs.LikeFlags.{FlagsAlike, SeenAlike}
@@ -279,6 +281,13 @@ module _ (p : Tree) (h : first_fault p ≡ None) (common : is_common p ≡ true)
   hidden : holds_in p.source_type (mentions p) (tables_of p) reason.HiddenParameter x ≡ false
   hidden = holds_not reason.HiddenParameter (inr (inr (inr (inr (inr (inr (inr (inr (inr (inl refl))))))))))
 
+  asks_own_index : any_mention (is_in_own_index (mentions p)) (mentions p) x ≡ false
+  asks_own_index = by (is_typescript p.source_type) typed (holds_not reason.IndexParameter (inr (inr (inr (inr (inr (inr (inr (inr (inr (inr (inl refl))))))))))))
+    where
+      by : (t : Bool) → t ≡ true → (t && any_mention (is_in_own_index (mentions p)) (mentions p) x) ≡ false → any_mention (is_in_own_index (mentions p)) (mentions p) x ≡ false
+      by true e i = i
+      by false e i = absurd (never (sym e))
+
   unmerged : any_symbol (is_merged_member (mentions p) (tables_of p)) (tables_of p).symbols x ≡ false
   unmerged = holds_not reason.MergedMember (inr (inr (inr (inr (inr (inr (inl refl)))))))
 
@@ -409,10 +418,15 @@ module _ (p : Tree) (h : first_fault p ≡ None) (common : is_common p ≡ true)
     agrees_so o nowhere e a = ap is_untied (referred.tied ∙ e ∙ a)
     agrees_so o (declared_in c ids) e a = ap (is_tied_to_each (analysis_of p) ids) (referred.tied ∙ e ∙ a.1) ∙ tied_to_all ids a.0 a.2
 
+    -- where the name is hidden, no value is asked for
+    not_hidden : (is_past_parameter (named_in p) x q.node q.path ≡ true) ⊎ (under_index (named_in p) x q.path ≡ true) → (asked_by_reference q.path).value ≡ false
+    not_hidden (inl i) = asks_past_none p h common typed numbered x name.simply hidden q entered refers is_x i
+    not_hidden (inr i) = absurd (asks_no_index p h numbered x asks_own_index q entered refers is_x i)
+
     pub use_agrees : is_use_tied (analysis_of p) (named_in p) (name_use p.source_type q) ≡ true
     use_agrees =
         let agree : AgreesRound p h common typed numbered x no_arguments name.simply alone_members q = (each_among (AgreedStep p h common typed numbered x no_arguments name.simply alone_members) (steps p) (entering q) (agreed_places p h common typed numbered x no_arguments name.simply alone_members) entered).0 in
-        let matches : Matches p h common typed numbered x no_arguments name.simply alone_members w (looked_up p h common typed numbered x no_arguments name.simply alone_members w q.chain) (resolve (named_in p) (round_place p q) (asked_by_reference q.path) x) = agree (asked_by_reference q.path) w (name.ways q entered refers is_x) (asks_past_none p h common typed numbered x name.simply hidden q entered refers is_x) in
+        let matches : Matches p h common typed numbered x no_arguments name.simply alone_members w (looked_up p h common typed numbered x no_arguments name.simply alone_members w q.chain) (resolve (named_in p) (round_place p q) (asked_by_reference q.path) x) = agree (asked_by_reference q.path) w (name.ways q entered refers is_x) (λ i. not_hidden (hidden_cases (named_in p) x q.node q.path i)) in
         let there : is_tied_as_resolved (analysis_of p) q.node.node_id (resolve (named_in p) (round_place p q) (asked_by_reference q.path) x) ≡ true = elim matches [
           | inl a ↦ agrees_so (looked_up p h common typed numbered x no_arguments name.simply alone_members w q.chain) (resolve (named_in p) (round_place p q) (asked_by_reference q.path) x) tied_is a
           | inr b ↦ elim b [

@@ -88,9 +88,9 @@ abbrev pub OwnNamesStandAlone : Tree → Name → Type 0
 OwnNamesStandAlone p x =
     (d e : NamedDeclaration) → Among d (named_in p) → Among e (named_in p) → d.name ≡ x → e.name ≡ x → d.sort ≡ sort.FunctionName → e.container.node ≡ d.container.node → e.identifier ≡ d.identifier
 
--- the name is declared only so, its variables keep clear, and it stands alone where it is a function's own
+-- the name is declared only so, and as the parameter of index signatures; its variables keep clear, and it stands alone where it is a function's own
 pub record IsSimplyDeclared (p : Tree) (x : Name) : Type 0 where
-  pub each : (d : NamedDeclaration) → Among d (named_in p) → d.name ≡ x → is_simple d ≡ true
+  pub each : (d : NamedDeclaration) → Among d (named_in p) → d.name ≡ x → is_sort sort.IndexParameter d ≡ false → is_simple d ≡ true
   pub clear : VarsKeepClear p x
   pub own : OwnNamesStandAlone p x
 

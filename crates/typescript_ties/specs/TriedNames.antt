@@ -41,5 +41,5 @@ owns_its_name_alone ds d = not (is_sort sort.FunctionName d) || list_all (λ e. 
 -- whether the name is simple
 abbrev pub is_simple_name : Tree → Name → Bool
 is_simple_name p x =
-    (list_all (λ d. not (bytes_eq d.name x) || (is_simple d && owns_its_name_alone (named_in p) d)) (named_in p) && list_all (asks_at x) (steps p))
+    (list_all (λ d. not (bytes_eq d.name x) || (is_sort sort.IndexParameter d || (is_simple d && owns_its_name_alone (named_in p) d))) (named_in p) && list_all (asks_at x) (steps p))
     && list_all (keeps_clear_at p.source_type (named_in p) x) (steps p)
