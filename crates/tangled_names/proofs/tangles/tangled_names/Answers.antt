@@ -8,5 +8,5 @@ returns c =
     let ms = map noted_of c.as_slice.result.now in
     let f = c.in_ok-facts.ensures in
     c.in_ok-found.ensures
-    ∙ found_same c.in_ok-facts.facts c.source_type.result ms c.args.scoping.now (told_same c.in_ok-facts.facts c.source_type.result ms c.args.scoping.now f.block_functions f.catch_variables f.in_with f.seen_by_eval f.merged f.passed f.shared)
+    ∙ found_same c.in_ok-facts.facts c.source_type.result ms c.args.scoping.now (told_same c.in_ok-facts.facts c.source_type.result ms c.args.scoping.now f.block_functions f.catch_variables f.in_with f.seen_by_eval f.merged f.passed f.shared f.typed)
     ∙ all_same _ _ _ _ _ _ c.source_type.ensures (c.as_slice.ensures ∙ c.in_ok-pass.ensures) c.requires
