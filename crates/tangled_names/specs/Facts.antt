@@ -6,7 +6,7 @@ use Rattle.semantic_syntax.specs.SourceTypes.{is_typescript}
 use Rattle.semantic_syntax.specs.Tables.{Name, Tables}
 use Rattle.semantic_syntax.specs.declared.source_type.SourceType.{SourceType}
 use Rattle.tangle_model.specs.Mention.{Mention}
-use Rattle.tangle_model.specs.Tangled.{holds_in, is_noted, any_mention, any_symbol, is_beside_infer, is_in_own_index, is_inner_variable}
+use Rattle.tangle_model.specs.Tangled.{holds_in, is_noted_as, any_mention, any_symbol, is_beside_infer, is_in_own_index, is_inner_variable}
 use Rattle.tangle_model.specs.declared.reason.Reason.{Reason}
 use Rattle.tangle_model.specs.declared.reason.Reason.TheVariants as reason
 use Rattle.tangle_model.specs.declared.what.What.TheVariants as what
@@ -34,10 +34,10 @@ facts_tell f s t reason.ExportedType name = is_typescript s && has_name f.typed.
 pub record TypedHold (f : TypedFacts) (ms : List Mention) (t : Tables) : Type 0 where
   pub beside_infer : (x : Name) → has_name f.beside_infer x ≡ any_mention (is_beside_infer ms) ms x
   pub in_own_index : (x : Name) → has_name f.in_own_index x ≡ any_mention (is_in_own_index ms) ms x
-  pub in_type_parameters : (x : Name) → has_name f.in_type_parameters x ≡ is_noted what.InTypeParameters ms x
+  pub in_type_parameters : (x : Name) → has_name f.in_type_parameters x ≡ is_noted_as what.InTypeParameters ms x
   pub inner_variables : (x : Name) → has_name f.inner_variables x ≡ any_symbol is_inner_variable t.symbols x
-  pub inner_functions : (x : Name) → has_name f.inner_functions x ≡ is_noted what.InnerFunction ms x
-  pub exported_types : (x : Name) → has_name f.exported_types x ≡ is_noted what.ExportedType ms x
+  pub inner_functions : (x : Name) → has_name f.inner_functions x ≡ is_noted_as what.InnerFunction ms x
+  pub exported_types : (x : Name) → has_name f.exported_types x ≡ is_noted_as what.ExportedType ms x
 
 -- they tell what holds
 abbrev pub FactsHold : NameFacts → SourceType → List Mention → Tables → Type 0

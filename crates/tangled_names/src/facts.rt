@@ -165,7 +165,8 @@ pub fn met_names<'a>(
 ) -> Result<KeySet<'a>, AllocError>
     ensures { IfOk result (λ names. (name : Name)
         → has_name names name ≡ any_mention
-        (λ m. is_mention_of what m && key_stands (key_of m) (keys_of met (map noted_of mentions.now)))
+        (λ m. is_mention_of what m
+        && key_stands (key_of m) (keys_of met (map noted_of mentions.now)))
         (map noted_of mentions.now) name) }
 {
     let keys = noted_keys(alloc, mentions, met)?;

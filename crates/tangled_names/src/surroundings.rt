@@ -124,7 +124,7 @@ fn extends_part_of(node: AstKind<'_>) -> NodeId
 
 /// Whether the node is that part, where there is one.
 fn is_part(part: NodeId, node: AstKind<'_>) -> bool
-    ensures { result ≡ surroundings.is_part part node.entry.node.now }
+    ensures { result ≡ surroundings.is_extends_part part node.entry.node.now }
 {
     node.node_id().index() == part.index() && part.index() != 0
 }
@@ -144,7 +144,8 @@ fn outermost_of(above: NodeId, is_one: bool, node: AstKind<'_>) -> NodeId
 
 /// Whether a name in the node is exported as a type.
 fn exports_types(node: AstKind<'_>, above: bool) -> bool
-    ensures { result ≡ surroundings.exports_types_in node.entry.node.now.kind node.entry.node.now above }
+    ensures { result
+        ≡ surroundings.exports_types_in node.entry.node.now.kind node.entry.node.now above }
 {
     match node.ty() {
         AstType::ExportNamedDeclaration => node.has_mark(Mark::TypeOnly),
