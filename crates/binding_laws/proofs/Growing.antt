@@ -1,20 +1,20 @@
 -- A declaration leaves the flags of each symbol, or adds its own.
-use Rattle.std.proofs.Common.{◌≡◌, ℕ, zero, suc, ◌<◌, List, [], ◌∷◌, Option, Some, None, Bool, true, false, cond, not, ◌==◌, ◌⊎◌, inl, inr, refl, sym, ap, subst, ◌∙◌, length, option_map, arith}
+use Rattle.std.proofs.Common.{◌≡◌, ℕ, zero, suc, ◌<◌, List, [], ◌∷◌, ◌++◌, Option, Some, None, Bool, true, false, cond, not, ◌==◌, ◌⊎◌, inl, inr, refl, sym, ap, subst, ◌∙◌, length, option_map, arith}
 use Rattle.std.specs.Prelude.{slice_get}
 use Rattle.std.specs.Int.RustNames.{bit_and}
 use Rattle.std.proofs.lemmas.Bool.{ne_eqb, eq-eqb}
 use Rattle.std.proofs.lemmas.Bool.Decides.{eqb_tells}
 use Rattle.std.proofs.lemmas.Nat.{and_assoc, and_comm, and_le_r, and_or_apart, and_or_self, or_comm}
 use Rattle.semantic_syntax.specs.Sets.{meets, union}
-use Rattle.semantic_syntax.specs.Tables.{Name, Symbol}
+use Rattle.semantic_syntax.specs.Tables.{Name, Symbol, Bindings}
 use Rattle.semantic_model.specs.Binding.{get}
 use Rattle.semantic_model.specs.Declaration.{How, plain, hoisted, moved, caught, Declaration, stands_in}
 use Rattle.semantic_model.specs.Entries.{Among}
 use Rattle.semantic_model.specs.Event.{declares}
 use Rattle.semantic_model.specs.Fold.{State, Conflict, conflict_with, found, update, redeclared, united, in_scope, note_symbol, against, declare_in, chosen, flags_of, flags_or_none, new_symbol}
-use Rattle.semantic_model.specs.Hoist.{PassedSymbol, passed_symbol, asked_symbols, against_all, move_symbol, hoist_by, move_out, declare_by, act}
+use Rattle.semantic_model.specs.Hoist.{PassedSymbol, passed_symbol, asked_symbols, against_all, move_symbol, hoist_by, move_out, declare_by, rescoped, act}
 use Rattle.semantic_model.proofs.lists.Members.{among_left}
-use Rattle.semantic_model.proofs.lists.SymbolLaws.{get-update, get-push}
+use Rattle.semantic_model.proofs.lists.SymbolLaws.{get-update, get-push, get_within}
 
 -- sets of which neither has the flags
 pub meets_neither : (a b f : ℕ) → meets a f ≡ false → meets b f ≡ false → meets (union a b) f ≡ false
@@ -59,6 +59,13 @@ same_flags f ys n m h = ap flags_or_none (get-update f ys n m) ∙ by (n == m) (
     by true None = refl
     by true (Some y) = h y
     by false o = refl
+
+pub pushed_flags : (ys : List Symbol) (y z : Symbol) (n : ℕ) → slice_get ys n ≡ Some z → flags_or_none (slice_get (ys ++ y ∷ []) n) ≡ flags_or_none (slice_get ys n)
+pushed_flags ys y z n h = ap flags_or_none (get-push ys y n (get_within ys n z h))
+
+pub rescoped_flags : (ys : List Symbol) (bs : Bindings) (c n : ℕ) → flags_or_none (slice_get (rescoped ys bs c) n) ≡ flags_or_none (slice_get ys n)
+rescoped_flags ys [] c n = refl
+rescoped_flags ys (b ∷ bs) c n = rescoped_flags (update (in_scope c) ys b.1) bs c n ∙ same_flags (in_scope c) ys b.1 n (λ y. refl)
 
 -- each symbol that there was has its flags, or these too
 pub record Grown (flags : ℕ) (st new : State) : Type 0 where

@@ -10,7 +10,7 @@ use Rattle.semantic_kinds.specs.declared.kind.AstType.TheVariants as kind
 use Rattle.semantic_kinds.specs.declared.role.Role.TheVariants as role
 use Rattle.semantic_syntax.proofs.Truth.{and_first}
 use Rattle.semantic_syntax.specs.Sets.{meets}
-use Rattle.semantic_syntax.specs.Tables.{Name, Symbol, Bindings}
+use Rattle.semantic_syntax.specs.Tables.{Name}
 use Rattle.semantic_tree.specs.Faults.{first_fault}
 use Rattle.semantic_tree.specs.Tree.{Tree}
 use Rattle.semantic_tree.specs.Views.{is}
@@ -19,8 +19,8 @@ use Rattle.semantic_model.specs.Binding.{get, put, bound_by}
 use Rattle.semantic_model.specs.Declaration.{How, plain, hoisted, moved, caught, Declaration}
 use Rattle.semantic_model.specs.Entries.{Among}
 use Rattle.semantic_model.specs.Event.{Event, declares, takes_over, ends_header, is_catch_body, taken_over, placed, declares_all, events_of, written_declarations, events, declarations}
-use Rattle.semantic_model.specs.Fold.{State, Made, start, make, found, or_else, unless_expression, declare_in, flags_of, flags_or_none, update, in_scope, new_symbol}
-use Rattle.semantic_model.specs.Hoist.{rescoped, declare_by, act, run}
+use Rattle.semantic_model.specs.Fold.{State, Made, start, make, found, or_else, unless_expression, declare_in, flags_of, flags_or_none, new_symbol}
+use Rattle.semantic_model.specs.Hoist.{declare_by, act, run}
 use Rattle.semantic_model.specs.Place.{Place, OpenScope, innermost, parent_holds}
 use Rattle.semantic_model.specs.Step.{Step, entering, opening, header_ending, closing, leaving, steps}
 use Rattle.semantic_model.proofs.fold.EachDeclared.{EachDeclared}
@@ -51,7 +51,7 @@ use Rattle.binding_laws.proofs.CutSteps.{opened_plain}
 use Rattle.binding_laws.proofs.KeptSymbols.{expression, IsBoundTo, Keeps, NoneBinds, IsFreeBy, IsFree, found_kept, found_other, found_within, told_push, declared_keeps}
 use Rattle.binding_laws.proofs.Settled.{IsSettled, keeps_settled, settle_run, none_goes, never_taken, events_right, homed_right, takes_past}
 use Rattle.binding_laws.proofs.OwnNames.{AllOther, IsOwnName, entering_other, own_named, class_other, key_other}
-use Rattle.binding_laws.proofs.Growing.{same_flags}
+use Rattle.binding_laws.proofs.Growing.{rescoped_flags}
 
 -- the scopes in which they are declared are below the number
 abbrev MadeBelow : ℕ → State → Type 0
@@ -202,16 +202,12 @@ module _ (block : Bool) (c : ℕ) (x : Name) where
           let g : IsBoundTo block c x st m = h.bound_to m k i in
           record {
             bound = found_kept block c x st (act st (takes_over a n)) m.symbol (get-take_over_other st.bindings a n c x (λ e. r (sym e)) not_body) refl
-                (ap (λ f. meets f expression) (flags_taken (bound_by st.bindings a) st.symbols m.symbol) ∙ found_other block c x st m.symbol g.bound) g.bound;
-            has = λ f v. ap (λ b. meets b f) (flags_taken (bound_by st.bindings a) st.symbols m.symbol) ∙ g.has f v;
+                (ap (λ f. meets f expression) (rescoped_flags st.symbols (bound_by st.bindings a) n m.symbol) ∙ found_other block c x st m.symbol g.bound) g.bound;
+            has = λ f v. ap (λ b. meets b f) (rescoped_flags st.symbols (bound_by st.bindings a) n m.symbol) ∙ g.has f v;
           }
         where
           not_body : c ≡ n → ⊥
           not_body e = absurd (omega (arith, l m k, i.scope, e))
-
-          flags_taken : (bs : Bindings) (ys : List Symbol) (y : ℕ) → flags_or_none (slice_get (rescoped ys bs n) y) ≡ flags_or_none (slice_get ys y)
-          flags_taken [] ys y = refl
-          flags_taken (e ∷ bs) ys y = flags_taken bs (update (in_scope n) ys e.1) y ∙ same_flags (in_scope n) ys e.1 y (λ z. refl)
 
   body_kind : (p : Place) → is_catch_body p ≡ true → p.node.kind ≡ kind.BlockStatement
   body_kind p h =

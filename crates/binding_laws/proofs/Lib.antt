@@ -15,3 +15,8 @@ pub mod CatchNames
 pub mod VarScopes
 pub mod BoundAtTop
 pub mod OneSymbolEach
+pub mod EnteredOnce
+pub mod ScopeOpeners
+pub mod ChildChains
+pub mod ReferredNodes
+pub mod OtherNames

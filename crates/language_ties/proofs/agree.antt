@@ -4,7 +4,6 @@ pub mod MadeEnvironments
 pub mod FamiliarPlaces
 pub mod PlainBounds
 pub mod ClassBounds
-pub mod EnteredOnce
 pub mod FunctionKinds
 pub mod Identifiers
 pub mod KnownBounds

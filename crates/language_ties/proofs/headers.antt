@@ -1,5 +1,4 @@
 -- References in the headers of functions that bind their names.
-pub mod ChildChains
 pub mod HeaderShape
 pub mod Sides
 pub mod Paired

@@ -1,5 +1,4 @@
 -- Declarations of one name that keep clear of each other share symbols.
-pub mod Untouched
 pub mod Shared
 pub mod Declares
 pub mod Ways

@@ -1,4 +1,3 @@
 -- The identifiers of an environment have one symbol.
-pub mod ScopeOpeners
 pub mod SymbolNumbers
 pub mod OneSymbol

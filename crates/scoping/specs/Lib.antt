@@ -6,3 +6,4 @@ pub mod Left
 pub mod Redeclared
 pub mod Kept
 pub mod Ancestry
+pub mod Claimed

@@ -133,7 +133,7 @@ impl Scoping {
         ensures { self.new ≡ self.old }
     {
         self.names.reserve(symbols)?;
-        self.bindings.reserve(scopes, symbols)?;
+        self.bindings.reserve(scopes)?;
         reserve_rows(
             &mut self.scopes,
             &mut self.symbols,

@@ -5,7 +5,7 @@ use Rattle.std.proofs.Math.ListN.{set}
 use Rattle.std.proofs.Math.Seq.{map-set_same}
 use Rattle.std.proofs.lemmas.Bool.{eqb-true, eqb-false, eq-eqb, false_from_ne_true}
 use Rattle.std.proofs.lemmas.List.{length-set, get_or-set_same, get_or-set_other, get_or_push, set_at, set-set, get_or_read, get_or-take, map-set, take_more}
-use Rattle.scoping_rows.specs.Flat.{Entries, Numbered, SlotList, key_eq, filled, slot_binds, is_position, StandsAt, HasPositions, HasAllPositions, KeepsElsewhere, Retells, IsRekeyed, hollow}
+use Rattle.scoping_rows.specs.Flat.{Entries, Numbered, SlotList, key_eq, filled, slot_binds, is_position, StandsAt, HasPositions, KeepsElsewhere, Retells, IsRekeyed, hollow}
 use Rattle.scoping_rows.proofs.Filled.{at_position}
 
 -- a slot that binds something is there
@@ -127,19 +127,6 @@ told_elsewhere es es' s n o told t m apart = rw apart at (told (t, m))
 
 pub elsewhere_trans : (a b c : Entries) (s : ℕ) → KeepsElsewhere a b s → KeepsElsewhere b c s → KeepsElsewhere a c s
 elsewhere_trans a b c s first second t n apart = second t n apart ∙ first t n apart
-
--- the places of all scopes, as one changes
-module _ (es es' : Entries) (rows : List SlotList) (h : HasAllPositions es rows) (s : ℕ) (xs : SlotList) (within : s < length rows) (now : HasPositions es' s xs) (others : KeepsElsewhere es es' s) where
-  pub all_positions : HasAllPositions es' (set rows s xs)
-  all_positions t n i = by (s == t) refl
-    where
-      by : (b : Bool) → (s == t) ≡ b → is_position i (lookup (key_eq (t, n)) es') ≡ slot_binds n (get_or (get_or (set rows s xs) t []) i None)
-      by true same =
-          subst (λ k. is_position i (lookup (key_eq (k, n)) es') ≡ slot_binds n (get_or (get_or (set rows s xs) k []) i None)) (eqb-true s t same)
-          (now n i ∙ sym (ap (λ r. slot_binds n (get_or r i None)) (get_or-set_same rows s xs [] within)))
-      by false apart =
-          ap (is_position i) (others t n apart) ∙ h t n i
-          ∙ sym (ap (λ r. slot_binds n (get_or r i None)) (get_or-set_other rows s t xs [] (λ e. eqb-false s t apart (sym e))))
 
 -- what one of the scopes binds
 pub shown_row : (rows : List SlotList) (s : ℕ) → get_or (map filled rows) s [] ≡ filled (get_or rows s [])
@@ -283,28 +270,3 @@ module _ (rows : List SlotList) (s i : ℕ) (was now : SlotList) (at : i ≡ s) 
 
   pub row_kept : filled now ≡ filled was → map filled (set rows i now) ≡ map filled rows
   row_kept is = map-set_same filled rows i now was (is ∙ ap filled read)
-
--- the slots of one scope made another's
-pub taken_positions : (es es' : Entries) (rows : List SlotList) (from to : ℕ) (xs : SlotList) → from < length rows → to < length rows → (from == to) ≡ false → HasAllPositions es rows
-    → HasPositions es' from [] → HasPositions es' to xs → ((t n : ℕ) → (from == t) ≡ false → (to == t) ≡ false → lookup (key_eq (t, n)) es' ≡ lookup (key_eq (t, n)) es)
-    → HasAllPositions es' (set (set rows from []) to xs)
-taken_positions es es' rows from to xs source target apart all first second others t n i = by (to == t) refl (from == t) refl
-  where
-    shows : SlotList → Type 0
-    shows r = is_position i (lookup (key_eq (t, n)) es') ≡ slot_binds n (get_or r i None)
-
-    past : (to == t) ≡ false → get_or (set rows from []) t [] ≡ get_or (set (set rows from []) to xs) t []
-    past e = sym (get_or-set_other (set rows from []) to t xs [] (λ q. eqb-false to t e (sym q)))
-
-    by : (b : Bool) → (to == t) ≡ b → (d : Bool) → (from == t) ≡ d → shows (get_or (set (set rows from []) to xs) t [])
-    by true e d q =
-        let at = eqb-true to t e in
-        subst shows (sym (ap (λ k. get_or (set (set rows from []) to xs) k []) (sym at) ∙ get_or-set_same (set rows from []) to xs [] (rw length-set target)))
-        (subst (λ k. is_position i (lookup (key_eq (k, n)) es') ≡ slot_binds n (get_or xs i None)) at (second n i))
-    by false e true q =
-        let at = eqb-true from t q in
-        subst shows (sym (ap (λ k. get_or (set rows from []) k []) (sym at) ∙ get_or-set_same rows from [] [] source) ∙ past e)
-        (subst (λ k. is_position i (lookup (key_eq (k, n)) es') ≡ false) at (first n i))
-    by false e false q =
-        subst shows (sym (get_or-set_other rows from t [] [] (λ r. eqb-false from t q (sym r))) ∙ past e)
-        (ap (is_position i) (others t n q e) ∙ all t n i)

@@ -2,6 +2,7 @@ pub mod Names
 pub mod Found
 pub mod Filled
 pub mod Indexed
+pub mod Near
 pub mod Rows
 pub mod Entries
 pub mod Renumbered

@@ -1,5 +1,5 @@
 -- What scopes bind, each binding in a slot of its scope, and one list of entries with the places of the slots.
-use Rattle.std.specs.Prelude.{◌≡◌, ℕ, List, slice_index_or, ◌==◌, ◌&&◌, Bool, false, filter_map, nat_eq, Option, None, slice_set, [], ◌∷◌, cond, zero, suc, take, if◌then◌else◌}
+use Rattle.std.specs.Prelude.{◌≡◌, ◌<◌, ℕ, MatchOption, true, List, slice_index_or, ◌==◌, ◌&&◌, Bool, false, filter_map, nat_eq, Option, None, slice_set, [], ◌∷◌, cond, zero, suc, take, if◌then◌else◌}
 use Rattle.std.specs.Option.{option_map_or}
 use Rattle.indexmap.specs.IndexMap.{insert_entry, shift_remove_entry}
 use Rattle.std.specs.Map.{lookup}
@@ -44,9 +44,37 @@ StandsAt xs n position = (i : ℕ) → is_position i position ≡ slot_binds n (
 abbrev pub HasPositions : Entries → ℕ → SlotList → Type 0
 HasPositions es s xs = (n : ℕ) → StandsAt xs n (lookup (key_eq (s, n)) es)
 
+-- each number stands in one slot at most
+abbrev pub IsOnce : SlotList → Type 0
+IsOnce xs = (n : ℕ) → (position : Option ℕ) × StandsAt xs n position
+
+-- how many slots of a scope have no entries, since they are searched one by one
+abbrev pub near : ℕ
+near = 8
+
+-- the slots without what the first of them bind
+abbrev pub hollow : ℕ → SlotList → SlotList
+hollow k [] = []
+hollow zero (x ∷ xs) = x ∷ xs
+hollow (suc k) (x ∷ xs) = None ∷ hollow k xs
+
+-- the slots that have entries, at their places
+abbrev pub far : SlotList → SlotList
+far xs = hollow near xs
+
+-- the place is one of the first ones that bind the number, if any does
+abbrev pub IsNearPlace : SlotList → ℕ → Option ℕ → Type 0
+IsNearPlace xs n position = MatchOption position ((i : ℕ) → i < near → slot_binds n (slice_index_or xs i None) ≡ false)
+    (λ i. slot_binds n (slice_index_or xs i None) ≡ true)
+
+-- the entries tell the places of the slots behind the first ones
+pub record IsIndexed (es : Entries) (s : ℕ) (xs : SlotList) : Type 0 where
+  pub places : HasPositions es s (far xs)
+  pub once : IsOnce xs
+
 -- and so for all scopes
-abbrev pub HasAllPositions : Entries → List SlotList → Type 0
-HasAllPositions es rows = (s : ℕ) → HasPositions es s (slice_index_or rows s [])
+abbrev pub AreIndexed : Entries → List SlotList → Type 0
+AreIndexed es rows = (s : ℕ) → IsIndexed es s (slice_index_or rows s [])
 
 -- of the other scopes the entries tell the same
 abbrev pub KeepsElsewhere : Entries → Entries → ℕ → Type 0
@@ -71,12 +99,6 @@ moved_number bs from to n = option_map_or (λ y. cut (put bs to n y) from n) (lo
 -- with the old number unbound in one of them and the new one bound to the symbol; equal numbers stay as they are
 abbrev pub renumbered : List Numbered → ℕ → ℕ → ℕ → ℕ → List Numbered
 renumbered bs s old new y = if new == old then bs else put (cut bs s old) s new y
-
--- the slots without what the first of them bind
-abbrev pub hollow : ℕ → SlotList → SlotList
-hollow k [] = []
-hollow zero (x ∷ xs) = x ∷ xs
-hollow (suc k) (x ∷ xs) = None ∷ hollow k xs
 
 -- the entries of the first k slots of one scope are another's
 pub record IsRekeyed (old new : Entries) (from to : ℕ) (xs : SlotList) (k : ℕ) : Type 0 where

@@ -2,11 +2,11 @@
 ghost use Rattle.std.specs.Prelude.{◌≡◌, ◌==◌, ◌+◌, ◌<◌, ◌≤◌, map, [], ◌∷◌, ◌++◌, length, nat_eq, false, None, Some, slice_index_or, slice_set, OnOk, OnErr};
 ghost use Rattle.std.specs.Map.{lookup};
 ghost use Rattle.indexmap.specs.IndexMap.{insert_entry, shift_remove_entry, spare};
-ghost use Rattle.scoping_rows.specs.Flat.{key_eq, filled, moved_number, renumbered, HasPositions, HasAllPositions, KeepsElsewhere, IsRekeyed};
+ghost use Rattle.scoping_rows.specs.Flat.{key_eq, filled, far, near, moved_number, renumbered, StandsAt, HasPositions, IsIndexed, AreIndexed, KeepsElsewhere, Retells, IsRekeyed};
 ghost use Rattle.scoping_rows.specs.Kept.{rows_without_types, IsPacked};
 
 use crate::kept::stays;
-use crate::scope_slots::{BoundIter, ScopeSlots};
+use crate::scope_slots::{BoundIter, NEAR, ScopeSlots};
 use crate::symbol_row::SymbolRow;
 use indexmap::IndexMap;
 use semantic_syntax::{ScopeId, SymbolId};
@@ -36,6 +36,67 @@ impl Model for BindingTable {
     ghost invariant = { IsKept };
 }
 
+/// The position of the number's slot in the scope.
+#[inline(always)]
+fn position_of(
+    positions: &IndexMap<(ScopeId, usize), usize>,
+    slots: &ScopeSlots,
+    scope: ScopeId,
+    number: usize,
+) -> Option<usize>
+    requires { IsIndexed positions.now.entries scope slots.now }
+    ensures { StandsAt slots.now number result }
+{
+    if let Some(position) = slots.near_position(number) {
+        return Some(position);
+    }
+    if slots.len() <= NEAR {
+        return None;
+    }
+    let position = positions.get(&(scope, number))?;
+    Some(*position)
+}
+
+/// The number leaves its slot at the position: the map tells of it no more.
+fn forget(
+    positions: &mut IndexMap<(ScopeId, usize), usize>,
+    scope: ScopeId,
+    number: usize,
+    position: usize,
+)
+    requires { position < near → lookup (key_eq (scope, number)) positions.old.entries ≡ None }
+    ensures { Retells positions.old.entries positions.new.entries (scope, number) None }
+{
+    if position >= NEAR {
+        let _position = positions.swap_remove(&(scope, number));
+    }
+}
+
+/// The number's slot moves from the position to an earlier one.
+fn retell(
+    positions: &mut IndexMap<(ScopeId, usize), usize>,
+    scope: ScopeId,
+    number: usize,
+    position: usize,
+    earlier: usize,
+)
+    requires unknown { position < near
+        → lookup (key_eq (scope, number)) positions.old.entries ≡ None }
+    requires known { near ≤ position
+        → lookup (key_eq (scope, number)) positions.old.entries ≡ Some position }
+    requires earlier { earlier ≤ position }
+    ensures near { earlier < near
+        → Retells positions.old.entries positions.new.entries (scope, number) None }
+    ensures far { near ≤ earlier
+        → Retells positions.old.entries positions.new.entries (scope, number) (Some earlier) }
+{
+    if earlier < NEAR {
+        forget(positions, scope, number, position);
+        return;
+    }
+    let _previous = positions.insert((scope, number), earlier);
+}
+
 /// Binds the number to the symbol. A new number goes last, a bound one keeps its position.
 fn bind(
     positions: &mut IndexMap<(ScopeId, usize), usize>,
@@ -44,18 +105,22 @@ fn bind(
     number: usize,
     symbol: SymbolId,
 ) -> Result<(), AllocError>
-    requires { HasPositions positions.old.entries scope slots.old }
-    ensures positions { HasPositions positions.new.entries scope slots.new }
+    requires { IsIndexed positions.old.entries scope slots.old }
+    ensures positions { IsIndexed positions.new.entries scope slots.new }
     ensures elsewhere { KeepsElsewhere positions.old.entries positions.new.entries scope }
     ensures ok { OnOk result (filled slots.new
         ≡ insert_entry nat_eq (filled slots.old) number symbol) }
     ensures err { OnErr result (filled slots.new ≡ filled slots.old) }
 {
-    if let Some(position) = positions.get(&(scope, number)) {
-        slots.fill(*position, number, symbol);
+    if let Some(position) = position_of(positions, slots, scope, number) {
+        slots.fill(position, number, symbol);
         return Ok(());
     }
     let position = slots.len();
+    if position < NEAR {
+        slots.push(number, symbol)?;
+        return Ok(());
+    }
     positions.reserve(1)?;
     slots.push(number, symbol)?;
     let _previous = positions.insert((scope, number), position);
@@ -72,10 +137,10 @@ fn settle(
     position: usize,
     packed: usize,
 ) -> usize
-    requires positions { HasPositions positions.old.entries scope slots.old }
+    requires positions { IsIndexed positions.old.entries scope slots.old }
     requires within { position < length slots.old }
     requires packed { IsPacked rows.now slots.old packed position }
-    ensures positions { HasPositions positions.new.entries scope slots.new }
+    ensures positions { IsIndexed positions.new.entries scope slots.new }
     ensures elsewhere { KeepsElsewhere positions.old.entries positions.new.entries scope }
     ensures count { length slots.new ≡ length slots.old }
     ensures kept { rows_without_types rows.now (filled slots.new)
@@ -88,12 +153,12 @@ fn settle(
     };
     slots.clear(position);
     if !stays(rows, symbol) {
-        let _position = positions.swap_remove(&(scope, number));
+        forget(positions, scope, number, position);
         return packed;
     }
     let _count = slots.len();
     slots.fill(packed, number, symbol);
-    let _previous = positions.insert((scope, number), packed);
+    retell(positions, scope, number, position, packed);
     packed + 1
 }
 
@@ -104,8 +169,8 @@ fn pack(
     scope: ScopeId,
     rows: &[SymbolRow],
 )
-    requires { HasPositions positions.old.entries scope slots.old }
-    ensures positions { HasPositions positions.new.entries scope slots.new }
+    requires { IsIndexed positions.old.entries scope slots.old }
+    ensures positions { IsIndexed positions.new.entries scope slots.new }
     ensures elsewhere { KeepsElsewhere positions.old.entries positions.new.entries scope }
     ensures kept { filled slots.new ≡ rows_without_types rows.now (filled slots.old) }
 {
@@ -122,9 +187,9 @@ fn pack_each(
     scopes: &mut Vec<ScopeSlots>,
     rows: &[SymbolRow],
 )
-    requires positions { HasAllPositions positions.old.entries scopes.old.items }
+    requires positions { AreIndexed positions.old.entries scopes.old.items }
     requires fits { length scopes.old.items < 4294967296 }
-    ensures positions { HasAllPositions positions.new.entries scopes.new.items }
+    ensures positions { AreIndexed positions.new.entries scopes.new.items }
     ensures kept { map filled scopes.new.items
         ≡ map (rows_without_types rows.now) (map filled scopes.old.items) }
 {
@@ -145,15 +210,16 @@ fn unbind(
     scope: ScopeId,
     number: usize,
 )
-    requires { HasPositions positions.old.entries scope slots.old }
-    ensures positions { HasPositions positions.new.entries scope slots.new }
+    requires { IsIndexed positions.old.entries scope slots.old }
+    ensures positions { IsIndexed positions.new.entries scope slots.new }
     ensures elsewhere { KeepsElsewhere positions.old.entries positions.new.entries scope }
     ensures gone { filled slots.new ≡ shift_remove_entry (nat_eq number) (filled slots.old) }
 {
-    let position = match positions.swap_remove(&(scope, number)) {
+    let position = match position_of(positions, slots, scope, number) {
         Some(position) => position,
         None => return,
     };
+    forget(positions, scope, number, position);
     slots.clear(position);
     if slots.is_sparse() {
         pack(positions, slots, scope, &[]);
@@ -169,13 +235,13 @@ fn rekey(
 )
     requires room { length slots.now ≤ spare positions.old }
     requires apart { (from == to) ≡ false }
-    requires from { HasPositions positions.old.entries from slots.now }
+    requires from { HasPositions positions.old.entries from (far slots.now) }
     requires to { HasPositions positions.old.entries to [] }
-    ensures { IsRekeyed positions.old.entries positions.new.entries from to slots.now
+    ensures { IsRekeyed positions.old.entries positions.new.entries from to (far slots.now)
         (length slots.now) }
 {
     for position in 0..slots.len() {
-        if let Some((number, _)) = slots.get(position) {
+        if let Some((number, _)) = slots.far(position) {
             let _position = positions.swap_remove(&(from, number));
             let _previous = positions.insert((to, number), position);
         }
@@ -209,11 +275,8 @@ impl BindingTable {
         ensures { result ≡ lookup (nat_eq number) (slice_index_or self.now scope []) }
     {
         let slots = &self.scopes[scope.index()];
-        if slots.bound_len() == 0 {
-            return None;
-        }
-        let position = self.positions.get(&(scope, number))?;
-        let (_, symbol) = slots.get(*position)?;
+        let position = position_of(&self.positions, slots, scope, number)?;
+        let (_, symbol) = slots.get(position)?;
         Some(symbol)
     }
 
@@ -335,12 +398,11 @@ impl BindingTable {
         pack_each(&mut self.positions, &mut self.scopes, rows);
     }
 
-    /// Makes room for more scopes and bindings.
-    pub fn reserve(&mut self, scopes: usize, bindings: usize) -> Result<(), AllocError>
+    /// Makes room for more scopes.
+    pub fn reserve(&mut self, scopes: usize) -> Result<(), AllocError>
         ensures { self.new ≡ self.old }
     {
-        self.scopes.reserve(scopes)?;
-        self.positions.reserve(bindings)
+        self.scopes.reserve(scopes)
     }
 }
 

@@ -4,7 +4,7 @@ ghost use Rattle.std.specs.Iterator.{at_most};
 ghost use Rattle.std.specs.Map.Iter.{TakesFirst};
 ghost use Rattle.std.specs.Slice.Iter.{iter_rest};
 ghost use Rattle.std.specs.Option.{option_to_list};
-ghost use Rattle.scoping_rows.specs.Flat.{filled};
+ghost use Rattle.scoping_rows.specs.Flat.{filled, far, slot_binds, IsNearPlace};
 
 use semantic_syntax::SymbolId;
 use std::alloc::{AllocError, Global};
@@ -29,6 +29,9 @@ impl Model for ScopeSlots {
 
     ghost invariant = { λ a. a.empty + length (filled a.items.items) ≡ length a.items.items };
 }
+
+/// How many slots of a scope are searched one by one.
+pub const NEAR: usize = 8;
 
 /// How many numbers the slot binds.
 fn count_bound(slot: Option<(usize, SymbolId)>) -> usize
@@ -78,6 +81,39 @@ impl ScopeSlots {
             Some(slot) => *slot,
             None => None,
         }
+    }
+
+    /// The position of the number's slot, if it is one of the first.
+    pub fn near_position(&self, number: usize) -> Option<usize>
+        ensures { IsNearPlace self.now number result }
+    {
+        for position in 0..self.items.len().min(NEAR) {
+            if self.binds(position, number) {
+                return Some(position);
+            }
+        }
+        None
+    }
+
+    /// Whether the slot at the position binds the number.
+    fn binds(&self, position: usize, number: usize) -> bool
+        requires { position < length self.now }
+        ensures { result ≡ slot_binds number (slice_index_or self.now position None) }
+    {
+        match &self.items[position] {
+            Some((bound, _)) => number == *bound,
+            None => false,
+        }
+    }
+
+    /// What the slot at the position binds, if it isn't one of the first.
+    pub fn far(&self, position: usize) -> Option<(usize, SymbolId)>
+        ensures { result ≡ slice_index_or (far self.now) position None }
+    {
+        if position < NEAR {
+            return None;
+        }
+        self.get(position)
     }
 
     /// Adds a slot that binds the number to the symbol.

@@ -1,3 +1,4 @@
+pub mod DoingBits
 pub mod Going
 pub mod MovedNames
 pub mod EvenNodes
@@ -22,6 +23,7 @@ pub mod EnterSteps
 pub mod NamesBy
 pub mod RoomAt
 pub mod Passing
+pub mod ChildWalks
 pub mod Folding
 pub mod ListedPaths
 pub mod StoredPaths

@@ -1,20 +1,21 @@
--- Nodes without children: walked once they are entered, or passed over.
-use Rattle.std.proofs.Common.{◌≡◌, ℕ, List, [], ◌∷◌, ◌++◌, Bool, true, false, ◌&&◌, ◌||◌, not, cond, Option, Some, None, is_some, option_map, length, refl, sym, ap, ◌∙◌}
+-- Nodes that are passed over, and children between which nothing happens.
+use Rattle.std.proofs.Common.{◌≡◌, ◌≤◌, ℕ, List, [], ◌∷◌, ◌++◌, Bool, true, false, ◌&&◌, ◌||◌, not, cond, Option, Some, None, is_some, option_map, refl, sym, ap, ◌∙◌}
 use Rattle.semantic_kinds.specs.Kinds.{same_kind}
 use Rattle.semantic_kinds.specs.declared.kind.AstType.{AstType}
 use Rattle.semantic_kinds.specs.declared.kind.AstType.TheVariants as kind
+use Rattle.semantic_kinds.specs.declared.mark.Mark.TheVariants as mark
 use Rattle.semantic_kinds.specs.declared.role.Role.{Role}
 use Rattle.semantic_syntax.specs.Counts.{raised}
 use Rattle.semantic_syntax.proofs.Truth.{or_false}
 use Rattle.semantic_tree.specs.Children.{forest_of}
 use Rattle.semantic_tree.specs.Forest.{Forest, nothing, tree}
-use Rattle.semantic_tree.specs.Views.{is}
+use Rattle.semantic_tree.specs.Views.{is, has}
 use Rattle.semantic_tree.specs.declared.node.Node.{Node}
 use Rattle.semantic_model.specs.Binder.{declared_by}
-use Rattle.semantic_model.specs.Cursor.{on_entering, on_leaving, cursor_after, way_or_read}
+use Rattle.semantic_model.specs.Cursor.{cursor_before, on_entering, on_leaving, cursor_after, way_or_read}
 use Rattle.semantic_model.specs.Declaration.{Declaration}
-use Rattle.semantic_model.specs.Place.{Place, OpenScope}
-use Rattle.semantic_model.specs.Step.{Step, entering, leaving, steps_below, opening_last, ending_after, scope_at, next_at}
+use Rattle.semantic_model.specs.Place.{Place, OpenScope, scope_of_place}
+use Rattle.semantic_model.specs.Step.{Step, entering, leaving, steps_below, opening_at, opening_last, ending_after, scope_at, next_at}
 use Rattle.semantic_model.proofs.form.Clauses.{kind_is}
 use Rattle.walk_model.specs.Opens.{add_eval, refer_to}
 use Rattle.walk_model.specs.WalkState.{WalkState}
@@ -27,44 +28,23 @@ use Rattle.check_walk.specs.SoFar.{Telling}
 use Rattle.check_walk.specs.TellingAlong.{telling_along, telling_past}
 use Rattle.walk_model.specs.Probes.{probes_of_steps}
 use Rattle.walk_model.proofs.asking.StepSums.{raised_none}
-use Rattle.semantic_walk.specs.AtPlace.{IsComing, entered, kept_at, told_within, walked_within, walked_over, probes_over}
+use Rattle.semantic_walk.specs.AtPlace.{IsTurnAt, IsComing, entered, told_within, walked_within, walked_over, probes_over}
 use Rattle.semantic_walk.specs.Binds.{acting}
-use Rattle.node_rules.specs.EvenKinds.{acts_between, is_quiet, is_passing, is_leaf, stands_alike}
+use Rattle.node_rules.specs.EvenKinds.{acts_between, is_quiet, is_passing, is_leaf}
 use Rattle.semantic_walk.specs.Leaving.{IsLeaving}
 use Rattle.semantic_walk.specs.Listed.{all_listed}
 use Rattle.semantic_walk.specs.Turns.{is_passed, past_leaf}
 use Rattle.semantic_walk.specs.Walker.{Walker, noting_node, referring, telling_of}
 use Rattle.semantic_walk.specs.declared.visit.Turn.{Turn}
-use Rattle.semantic_walk.proofs.Counting.{left_past, rests_end}
+use Rattle.semantic_walk.proofs.Counting.{left_past, rests_child}
 use Rattle.semantic_walk.proofs.EnterSteps.{no_eval, stands_in, enters, enters_quietly}
-use Rattle.semantic_walk.proofs.EvenNodes.{quiet_entering, quiet_between, quiet_behind, quiet_cursor, passing_between, none_last, none_ends, are_alike, comes_alike, ends_alike}
+use Rattle.semantic_walk.proofs.EvenNodes.{quiet_entering, quiet_between, quiet_behind, quiet_cursor, passing_between, none_last, none_ends, comes_even, ends_even}
 use Rattle.semantic_walk.proofs.Leaves.{leaves}
-use Rattle.semantic_walk.proofs.Visiting.{Rests, rests_first, rests_past, walked, place_of, comes_to_child}
+use Rattle.semantic_walk.proofs.Visiting.{Rests, rests_past, walked, place_of, at_child, comes_to_child}
 
 pub no_children : (f : Forest) → is_leaf f ≡ true → f ≡ nothing
 no_children nothing h = refl
 no_children (tree r k span text marks below id after) h = absurd cc
-
--- a node without children, where nothing acts between children: once it is entered, all below it is walked
-module _ (ds : List Declaration) (w : Walker) (p : Place) (own : Option OpenScope) (n : ℕ) (coming : IsComing ds w p own n) (leaf : p.node.children ≡ nothing) (even : acts_between p.node.kind ≡ false) (v : Walker)
-    (e : v ≡ record w { made = entered ds w p; path = w.path ++ p.node ∷ []; cursor = on_entering p.node.kind p.cursor; nodes = kept_at w p; notes = noting p.path p.node w.notes }) where
-  abbrev first_turn : Turn
-  first_turn = record { outer = v.current; is_ambient = v.is_ambient; own = cond (same_kind p.node.kind kind.Program) (Some v.current) None; header_start = length v.made.waiting; acts = acts_between p.node.kind }
-
-  rests_alone : (before : ℕ) → Rests ds w p own n before before v first_turn nothing
-  rests_alone before = rests_first ds w p own n v first_turn p.node.kind nothing before coming refl (sym leaf) e refl
-
-  none_opens : (scope : Option OpenScope) (next : ℕ) → v ≡ record v { made = after_all ds v.made (opening_last p scope next) }
-  none_opens scope next = λ i. record v { made = after_all ds v.made (sym (none_last p even scope next) i) }
-
-  pub walks_alone : v ≡ walked_within ds w p own n
-  walks_alone = let h : Rests ds w p own n 0 0 v first_turn nothing = rests_alone 0 in walked ds w p own n v v first_turn 0 0 coming h (none_opens h.scope h.next)
-
-  pub leaves_alone : IsLeaving v p
-  leaves_alone = let h : Rests ds w p own n 0 0 v first_turn nothing = rests_alone 0 in leaves ds w p own n v v first_turn 0 0 coming h (none_opens h.scope h.next)
-
-  pub asks_alone : (before : ℕ) → before ≡ raised before (probes_over ds w p own n)
-  asks_alone before = rests_end ds w p own n before before v first_turn (rests_alone before)
 
 -- a leaf where nothing acts between children
 module _ (ds : List Declaration) (w : Walker) (p : Place) (n : ℕ) (leaf : p.node.children ≡ nothing) (even : acts_between p.node.kind ≡ false) where
@@ -141,48 +121,77 @@ module _ (ds : List Declaration) (w : Walker) (p : Place) (n : ℕ) (coming : Is
       by true e = walks_past_reference (kind_is p.node.kind kind.IdentifierReference e)
       by false e = walks_nowhere (sym (or_false (is_quiet p.node.kind)) ∙ ap (λ b. is_quiet p.node.kind || b) (sym e) ∙ passing)
 
--- what is known of a child that is passed over
-record Passed (w : Walker) (alike : Bool) (child : Node) : Type 0 where
-  stays : alike ≡ true
+-- what is known of a node that is passed over
+record Passed (w : Walker) (node : Node) : Type 0 where
   off : w.checks ≡ false
-  passing : is_passing child.kind ≡ true
-  leaf : child.children ≡ nothing
+  passing : is_passing node.kind ≡ true
+  leaf : node.children ≡ nothing
   unkept : w.nodes ≡ None
 
-what_passes : (w : Walker) (alike : Bool) (child : Node) → is_passed w alike child ≡ true → Passed w alike child
-what_passes w alike child h = by alike w.checks (is_passing child.kind) (is_leaf child.children) w.nodes refl refl refl refl refl h
+what_passes : (w : Walker) (node : Node) → is_passed w node ≡ true → Passed w node
+what_passes w node h = by (is_passing node.kind) (is_leaf node.children) w.checks w.nodes refl refl refl refl h
   where
-    by : (a b c d : Bool) (o : Option Entered) → alike ≡ a → w.checks ≡ b → is_passing child.kind ≡ c → is_leaf child.children ≡ d → w.nodes ≡ o → (a && not b && c && d && not (is_some o)) ≡ true → Passed w alike child
-    by true false true true None e f g k l h = record { stays = e; off = f; passing = g; leaf = no_children child.children k; unkept = l }
-    by true false true true (Some x) e f g k l h = absurd cc
-    by true false true false o e f g k l h = absurd cc
-    by true false false d o e f g k l h = absurd cc
-    by true true c d o e f g k l h = absurd cc
-    by false b c d o e f g k l h = absurd cc
+    by : (a b c : Bool) (o : Option Entered) → is_passing node.kind ≡ a → is_leaf node.children ≡ b → w.checks ≡ c → w.nodes ≡ o → (a && b && not c && not (is_some o)) ≡ true → Passed w node
+    by true true false None e f g k h = record { off = g; passing = e; leaf = no_children node.children f; unkept = k }
+    by true true false (Some x) e f g k h = absurd cc
+    by true true true o e f g k h = absurd cc
+    by true false c o e f g k h = absurd cc
+    by false b c o e f g k h = absurd cc
 
--- a walk that stands between two children and is past the first has gone over it
-pub rests_passed : (ds : List Declaration) (first : Walker) (p : Place) (own : Option OpenScope) (n : ℕ) (child : Role × Node) (rest : List (Role × Node)) (w past : Walker) (turn : Turn) (before now : ℕ)
-    → Rests ds first p own n before now w turn (forest_of (child ∷ rest)) → is_passed w (stands_alike turn.acts p.node child.0) child.1 ≡ true → past ≡ past_leaf w child.1
-    → Rests ds first p own n before now past turn (forest_of rest)
-rests_passed ds first p own n child rest w past turn before now h passed goes =
-    let known : Passed w (stands_alike turn.acts p.node child.0) child.1 = what_passes w (stands_alike turn.acts p.node child.0) child.1 passed in
-    let scope : Option OpenScope = scope_at p child.0 h.scope h.next in
-    let next : ℕ = next_at p child.0 h.scope h.next in
-    let place : Place = place_of p h.scope h.next h.cursor child in
-    let stands = comes_alike ds w turn p h.scope h.next h.cursor h.start (forest_of (child ∷ rest)) p.node child.0 child.1 refl known.stays h.between in
-    let comes : IsComing ds w place None next = comes_to_child ds p h.scope h.next h.cursor h.start child rest w w turn h.between h.kept h.ready h.limit stands.0 in
-    let over : past ≡ walked_over ds w place None next = goes ∙ sym (walks_past ds w place next comes known.leaf known.off known.unkept known.passing) in
-    let still : turn.acts ≡ false = (are_alike turn.acts p.node child.0 known.stays).0 in
-    let even : acts_between p.node.kind ≡ false = sym h.between.stands.acts ∙ still in
-    let back : past ≡ record past { current = turn.outer; is_ambient = turn.is_ambient } =
-    λ i. record past {
-      current = (ap (λ (v : Walker). v.current) over ∙ h.between.within.current ∙ sym h.between.stands.outer) i;
-      is_ambient = (ap (λ (v : Walker). v.is_ambient) over ∙ h.between.is_ambient ∙ sym h.between.stands.is_ambient) i;
-    } in
-    let ended = ends_alike ds past past turn p scope (start_at p child.0 h.scope h.start w.made) w.cursor p.node.kind child.0 (forest_of rest) refl still stands.1 back in
-    let child_asks : now ≡ raised now (probes_over ds w place None next) =
-    sym (raised_none now) ∙ ap (raised now) (sym (asks_none ds w place next known.leaf (passing_between child.1.kind known.passing))) in
-    let end_asks : now ≡ raised now (probes_of_steps ds past.made (ending_after p child.0 scope (forest_of rest))) =
-    sym (raised_none now) ∙ ap (λ (xs : List Step). raised now (probes_of_steps ds past.made xs)) (sym (none_ends p even child.0 scope (forest_of rest))) in
-    let asks = left_past ds p h.scope h.next h.cursor h.start child rest w w past stands.0 over past now now now ended child_asks end_asks in
-    rests_past ds first p own n child rest w w past past turn turn before now now h stands.0 stands.1 over ended asks
+module _ (ds : List Declaration) (w : Walker) (p : Place) (n : ℕ) (coming : IsComing ds w p None n) (passed : is_passed w p.node ≡ true) where
+  known : Passed w p.node
+  known = what_passes w p.node passed
+
+  -- a walk that is past it has gone over it
+  pub over_passed : walked_over ds w p None n ≡ past_leaf w p.node
+  over_passed = walks_past ds w p n coming known.leaf known.off known.unkept known.passing
+
+  -- and there is nothing to ask
+  pub asks_passed : (before : ℕ) → before ≡ raised before (probes_over ds w p None n)
+  asks_passed before = sym (raised_none before) ∙ ap (raised before) (sym (asks_none ds w p n known.leaf (passing_between p.node.kind known.passing)))
+
+-- where nothing happens between children: a walk that turns its cursor to that of the next child and goes over it stands before the rest
+module _ (ds : List Declaration) (first : Walker) (p : Place) (own : Option OpenScope) (n : ℕ) (child : Role × Node) (rest : List (Role × Node)) (w v : Walker) (turn : Turn) (before now : ℕ)
+    (even : acts_between p.node.kind ≡ false) (unmarked : has mark.Declare p.node ≡ false)
+    (h : Rests ds first p own n before now w turn (forest_of (child ∷ rest)))
+    (turned : v ≡ record w { cursor = cursor_before p.node w.is_ambient child.0 child.1 w.cursor }) where
+  abbrev pub even_place : Place
+  even_place = place_of p h.scope h.next h.cursor child
+
+  abbrev pub even_next : ℕ
+  even_next = next_at p child.0 h.scope h.next
+
+  stands_even : (v ≡ at_child w (after_all ds w.made (opening_at p child.0 h.scope h.next)) even_place)
+      × IsTurnAt turn p (scope_at p child.0 h.scope h.next) (start_at p child.0 h.scope h.start w.made)
+  stands_even = comes_even p even child.0 unmarked child.1 h.next h.cursor ds w v turn h.scope h.start (forest_of (child ∷ rest)) h.between turned
+
+  pub coming_even : IsComing ds v even_place None even_next
+  coming_even = comes_to_child ds p h.scope h.next h.cursor h.start child rest w v turn h.between h.kept h.ready h.limit stands_even.0
+
+  -- what the child has asked on an error is no more than all ask
+  pub child_asks_even : (last : ℕ) → last ≤ raised now (probes_over ds v even_place None even_next) → last ≤ raised before (probes_over ds first p own n)
+  child_asks_even last few = rests_child ds first p own n before now w turn child rest h v stands_even.0 last few
+
+  pub rests_even : (past : Walker) (later : ℕ) → past ≡ walked_over ds v even_place None even_next → later ≡ raised now (probes_over ds v even_place None even_next)
+      → Rests ds first p own n before later past turn (forest_of rest)
+  rests_even past later over asked =
+      let scope : Option OpenScope = scope_at p child.0 h.scope h.next in
+      let here : past.current ≡ scope_of_place p = ap (λ (u : Walker). u.current) over ∙ ap (λ (u : Walker). u.current) turned ∙ h.between.within.current in
+      let around : past.is_ambient ≡ p.is_ambient = ap (λ (u : Walker). u.is_ambient) over ∙ ap (λ (u : Walker). u.is_ambient) turned ∙ h.between.is_ambient in
+      let ended = ends_even ds past p scope w.cursor child.0 (forest_of rest) even here around in
+      let end_asks : later ≡ raised later (probes_of_steps ds past.made (ending_after p child.0 scope (forest_of rest))) =
+      sym (raised_none later) ∙ ap (λ (xs : List Step). raised later (probes_of_steps ds past.made xs)) (sym (none_ends p even child.0 scope (forest_of rest))) in
+      let asks = left_past ds p h.scope h.next h.cursor h.start child rest w v past stands_even.0 over past now later later ended asked end_asks in
+      rests_past ds first p own n child rest w v past past turn turn before now later h stands_even.0 stands_even.1 over ended asks
+
+-- behind the last child nothing happens
+module _ (ds : List Declaration) (first : Walker) (p : Place) (own : Option OpenScope) (n : ℕ) (w : Walker) (turn : Turn) (before now : ℕ)
+    (even : acts_between p.node.kind ≡ false) (coming : IsComing ds first p own n) (h : Rests ds first p own n before now w turn nothing) where
+  none_last_opens : w ≡ record w { made = after_all ds w.made (opening_last p h.scope h.next) }
+  none_last_opens = λ i. record w { made = after_all ds w.made (sym (none_last p even h.scope h.next) i) }
+
+  pub walked_even : w ≡ walked_within ds first p own n
+  walked_even = walked ds first p own n w w turn before now coming h none_last_opens
+
+  pub leaves_even : IsLeaving w p
+  leaves_even = leaves ds first p own n w w turn before now coming h none_last_opens

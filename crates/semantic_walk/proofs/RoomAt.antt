@@ -29,7 +29,7 @@ use Rattle.walk_model.proofs.sizes.Rooms.{room_past, room_first}
 use Rattle.semantic_walk.specs.AtPlace.{IsTurnAt, IsBetweenAt, IsComing}
 use Rattle.semantic_walk.specs.Ids.{names_by, HasIds, MayEnter, MayOpen}
 use Rattle.semantic_walk.specs.Paths.{parent_in}
-use Rattle.semantic_walk.specs.Walker.{Walker, noting_node, referring, opening_in, taking_over}
+use Rattle.semantic_walk.specs.Walker.{Walker, referring, opening_in, taking_over}
 use Rattle.semantic_walk.specs.declared.visit.Turn.{Turn}
 use Rattle.semantic_walk.proofs.NamesBy.{names_alone, entered_long, opened_long, all_few}
 use Rattle.semantic_walk.proofs.Opening.{parent_above}
@@ -116,17 +116,16 @@ module _ (ds : List Declaration) (p : Place) (own : Option OpenScope) (n cursor 
       (room_past ds made (first ++ here ++ ends) more h)
 
 -- a walk that has made as many symbols, and sees the same above
-ids_kept : (w v : Walker) (node : Node) → length v.made.tables.symbols ≡ length w.made.tables.symbols → v.path ≡ w.path → HasIds w node → HasIds v node
+pub ids_kept : (w v : Walker) (node : Node) → length v.made.tables.symbols ≡ length w.made.tables.symbols → v.path ≡ w.path → HasIds w node → HasIds v node
 ids_kept w v node count path h = omega (arith, h, count, ap (λ (xs : List Node). length (names_by node.kind (parent_in xs) node)) path)
 
 -- a reference and a call of `eval` take no symbol
-pub ids_entered : (w stepped referred called : Walker) (node : Node) → stepped ≡ record (noting_node w node) { path = w.path ++ node ∷ []; cursor = on_entering node.kind w.cursor }
+pub ids_stepped : (stepped referred called : Walker) (node : Node)
     → referred ≡ cond (is kind.IdentifierReference node) (referring stepped node) stepped
     → called ≡ cond (is_direct_eval node) (record referred { made = add_eval referred.made referred.current }) referred
-    → HasIds (record w { path = w.path ++ node ∷ [] }) node → HasIds called node
-ids_entered w stepped referred called node s r c h =
-    let first : HasIds stepped node = ids_kept (record w { path = w.path ++ node ∷ [] }) stepped node (ap (λ (v : Walker). length v.made.tables.symbols) s) (ap (λ (v : Walker). v.path) s) h in
-    let second : HasIds referred node = subst (λ (v : Walker). HasIds v node) (sym r) (refers (is kind.IdentifierReference node) first) in
+    → HasIds stepped node → HasIds called node
+ids_stepped stepped referred called node r c h =
+    let second : HasIds referred node = subst (λ (v : Walker). HasIds v node) (sym r) (refers (is kind.IdentifierReference node) h) in
     subst (λ (v : Walker). HasIds v node) (sym c) (calls (is_direct_eval node) second)
   where
     refers : (b : Bool) → HasIds stepped node → HasIds (cond b (referring stepped node) stepped) node

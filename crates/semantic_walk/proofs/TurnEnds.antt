@@ -59,7 +59,7 @@ module _ (ds : List Declaration) (w : Walker) (turn : Turn) (p : Place) (n curso
         rw inside (
           (λ i. record (opens i) { current = w.current }) ∙ ap (λ m. record w { made = after ds w.made (opening p (opened_scope p m)) }) count,
           subst (λ (t : Turn). IsTurnAt t p (Some (opened_scope p n)) (length w.made.waiting)) (sym goes)
-              (record { outer = h.stands.outer; is_ambient = h.stands.is_ambient; own_scope = ap (λ m. Some m) count; header = refl; acts = h.stands.acts }),
+              (record { outer = h.stands.outer; is_ambient = h.stands.is_ambient; own_scope = ap (λ m. Some m) count; header = refl; doings = h.stands.doings }),
         )
 
   -- a scope that opens behind all children closes at once

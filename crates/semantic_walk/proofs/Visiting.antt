@@ -36,10 +36,9 @@ use Rattle.node_store.specs.Entered.{Entered}
 use Rattle.semantic_walk.specs.Listed.{IsAmong, all_listed}
 use Rattle.walk_notes.specs.NoteLists.{NoteLists, noting, noted_inside, noted_over}
 use Rattle.semantic_walk.specs.Stated.{IsStated, AllStated}
-use Rattle.node_rules.specs.EvenKinds.{acts_between}
 use Rattle.semantic_walk.specs.Walker.{Walker, telling_of}
 use Rattle.semantic_walk.specs.Turns.{child_scope, own_or}
-use Rattle.semantic_walk.specs.AtPlace.{probes_over, ComesTo, IsWithin, IsTurnAt, IsBetweenAt, IsOpenAtRoot, IsComing, entered, kept_at, told_within, walked_within, left_at, walked_over}
+use Rattle.semantic_walk.specs.AtPlace.{probes_over, ComesTo, IsWithin, IsTurnAt, IsBetweenAt, IsOpenAtRoot, IsComing, entered, kept_at, told_within, walked_into, walked_within, left_at, walked_over}
 use Rattle.walk_model.specs.Probes.{probes_of_steps}
 use Rattle.semantic_syntax.specs.Counts.{raised}
 use Rattle.semantic_walk.specs.declared.visit.Turn.{Turn}
@@ -97,6 +96,10 @@ path_without xs x = take_at xs (x ∷ []) (length (xs ++ x ∷ []) - 1) (omega (
 abbrev pub at_child : Walker → WalkState → Place → Walker
 at_child w made child = record w { made = made; current = scope_of_place child; cursor = child.cursor; is_ambient = child.is_ambient }
 
+-- what stands before the first child of a node of the kind
+abbrev pub turn_at : Walker → AstType → Turn
+turn_at w k = record { outer = w.current; is_ambient = w.is_ambient; own = cond (same_kind k kind.Program) (Some w.current) None; header_start = length w.made.waiting; doings = k }
+
 -- the walk behind a child
 abbrev pub behind_child : Walker → WalkState → Place → ℕ → Walker
 behind_child w made p cursor = record w { made = made; current = scope_of_place p; cursor = cursor; is_ambient = p.is_ambient }
@@ -152,8 +155,8 @@ module _ (ds : List Declaration) (first : Walker) (p : Place) (own : Option Open
 
   -- it does so once the node is entered
   pub rests_first : (w : Walker) (turn : Turn) (k : AstType) (f : Forest) (before : ℕ) → IsComing ds first p own n → k ≡ p.node.kind → f ≡ p.node.children
-      → w ≡ record first { made = entered ds first p; path = first.path ++ p.node ∷ []; cursor = on_entering p.node.kind p.cursor; nodes = kept_at first p; notes = noting p.path p.node first.notes }
-      → turn ≡ record { outer = w.current; is_ambient = w.is_ambient; own = cond (same_kind k kind.Program) (Some w.current) None; header_start = length w.made.waiting; acts = acts_between k }
+      → w ≡ walked_into ds first p
+      → turn ≡ turn_at w k
       → Rests before before w turn f
   rests_first w turn k f before h kind_same is e t =
       let comes : ComesTo first p = h.comes in
@@ -182,7 +185,7 @@ module _ (ds : List Declaration) (first : Walker) (p : Place) (own : Option Open
             is_ambient = ap (λ (u : Turn). u.is_ambient) t ∙ ambient;
             own_scope = own_first turn w.current (ap (λ (u : Turn). u.own) t ∙ ap (λ (k : AstType). cond (same_kind k kind.Program) (Some w.current) None) kind_same) current h.root;
             header = ap (λ (u : Turn). u.header_start) t ∙ ap (λ (v : WalkState). length v.waiting) made;
-            acts = ap (λ (u : Turn). u.acts) t ∙ ap acts_between kind_same;
+            doings = ap (λ (u : Turn). u.doings) t ∙ kind_same;
           };
           between = subst (λ (v : WalkState). IsBetween v p own n cursor (length (entered ds first p).waiting) f) (sym made)
               (subst (λ (g : Forest). IsBetween (entered ds first p) p own n cursor (length (entered ds first p).waiting) g) (sym is) h.between);

@@ -18,7 +18,6 @@ use Rattle.walk_model.specs.Probes.{probes_of_steps}
 use Rattle.walk_model.specs.Room.{HasRoom}
 use Rattle.node_store.specs.Entered.{Entered, leaving as leaving_node}
 use Rattle.walk_notes.specs.NoteLists.{noting, noted_inside, noted_over, leaving as leaving_notes}
-use Rattle.node_rules.specs.EvenKinds.{acts_between}
 use Rattle.semantic_walk.specs.Listed.{IsNext, all_listed, entered_at}
 use Rattle.check_walk.specs.Ready.{IsReadyAt}
 use Rattle.check_walk.specs.SoFar.{Telling}
@@ -49,13 +48,13 @@ pub record IsShown (ds : List Declaration) (w : Walker) (p : Place) : Type 0 whe
   pub named : IsStepNamed ds w.namesakes (entering p)
   pub stated : IsStated w.states p
 
--- what stands between two children of a place, with its own scope, where its header starts, and whether its kind acts between them
+-- what stands between two children of a place, with its own scope, where its header starts, and what the walk does at its kind
 pub record IsTurnAt (turn : Turn) (p : Place) (own : Option OpenScope) (start : ℕ) : Type 0 where
   pub outer : turn.outer ≡ scope_of_place p
   pub is_ambient : turn.is_ambient ≡ p.is_ambient
   pub own_scope : turn.own ≡ option_map (λ s. s.number) own
   pub header : turn.header_start ≡ start
-  pub acts : turn.acts ≡ acts_between p.node.kind
+  pub doings : turn.doings ≡ p.node.kind
 
 -- the walk stands between two children of a place, with those that are left
 pub record IsBetweenAt (ds : List Declaration) (w : Walker) (turn : Turn) (p : Place) (own : Option OpenScope) (n cursor start : ℕ) (f : Forest) : Type 0 where
@@ -105,6 +104,33 @@ pub record IsSomewhere (w : Walker) (node : Node) (r : Role) : Type 0 where
   pub node_is : place.node ≡ node
   pub role_is : place.role ≡ r
   pub coming : IsComing ds w place own next
+
+-- the node is entered, and nothing below it walked
+abbrev pub walked_into : List Declaration → Walker → Place → Walker
+walked_into ds w p =
+    record w {
+      made = entered ds w p;
+      path = w.path ++ p.node ∷ [];
+      cursor = on_entering p.node.kind p.cursor;
+      nodes = kept_at w p;
+      notes = noting p.path p.node w.notes;
+    }
+
+-- a walk that came to the place as `first` has entered its node
+pub record IsEntered (ds : List Declaration) (first w : Walker) (p : Place) (own : Option OpenScope) (n : ℕ) : Type 0 where
+  pub coming : IsComing ds first p own n
+  pub entered : w ≡ walked_into ds first p
+
+-- the walk has entered the node in its role, somewhere in a program
+pub record HasEntered (w : Walker) (node : Node) (r : Role) : Type 0 where
+  pub ds : List Declaration
+  pub first : Walker
+  pub place : Place
+  pub own : Option OpenScope
+  pub next : ℕ
+  pub node_is : place.node ≡ node
+  pub role_is : place.role ≡ r
+  pub inside : IsEntered ds first w place own next
 
 -- what is made and told once all below the node is walked
 abbrev pub told_within : List Declaration → Walker → Place → Option OpenScope → ℕ → Telling

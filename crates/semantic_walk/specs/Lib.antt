@@ -1,3 +1,4 @@
+pub mod Doings
 pub mod Paths
 pub mod Turns
 pub mod Walker

@@ -1,5 +1,5 @@
 -- The list of nodes while a walk makes it.
-use Rattle.std.specs.Prelude.{◌≡◌, ◌<◌, ℕ, List, [], ◌∷◌, ◌++◌, Option, Some, None, length, slice_index, Bool, if◌then◌else◌}
+use Rattle.std.specs.Prelude.{◌≡◌, ◌<◌, ℕ, List, [], ◌∷◌, Option, Some, None, length, slice_index, Bool, if◌then◌else◌}
 use Rattle.semantic_tree.specs.Forest.{Forest, numbered}
 use Rattle.semantic_tree.specs.Tree.{IsPreorder}
 use Rattle.semantic_model.specs.Place.{Place, scope_of_place}

@@ -29,9 +29,9 @@ abbrev pub child_scope : Tables → Turn → AstType → Role → ℕ
 child_scope t turn k r =
     cond (is_parameter_decorator k r) (unwrap_or (scope_of t turn.outer).parent turn.outer) (own_or (is_inside k r) turn.own turn.outer)
 
--- whether the walk goes past a child without a visit: a leaf of a kind that may be passed, which stands as its parent does (`alike`), where no early errors are told and no nodes are kept
-abbrev pub is_passed : Walker → Bool → Node → Bool
-is_passed w alike child = alike && not w.checks && is_passing child.kind && is_leaf child.children && not (is_some w.nodes)
+-- whether the walk goes past a node without a visit: a leaf of a kind that may be passed, where no early errors are told and no nodes are kept
+abbrev pub is_passed : Walker → Node → Bool
+is_passed w node = is_passing node.kind && is_leaf node.children && not w.checks && not (is_some w.nodes)
 
 -- the walk is past a leaf that is passed over: a reference waits, and has used the cursor up
 abbrev pub past_leaf : Walker → Node → Walker

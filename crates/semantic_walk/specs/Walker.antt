@@ -1,5 +1,5 @@
 -- A walk: what it has made so far, and where it stands.
-use Rattle.std.specs.Prelude.{ℕ, List, [], Bool, Option, Some, option_map, length}
+use Rattle.std.specs.Prelude.{ℕ, List, [], ◌∷◌, ◌++◌, Bool, Option, Some, option_map, length}
 use Rattle.semantic_syntax.specs.declared.source_type.SourceType.{SourceType}
 use Rattle.semantic_kinds.specs.declared.role.Role.{Role}
 use Rattle.semantic_tree.specs.declared.node.Node.{Node}
@@ -11,7 +11,7 @@ use Rattle.semantic_syntax.specs.Sets.{meets, union}
 use Rattle.semantic_syntax.specs.Reading.{scope_of}
 use Rattle.semantic_syntax.specs.Writing.{bindings_taken_over}
 use Rattle.node_store.specs.Entered.{Entered, entering}
-use Rattle.semantic_model.specs.Cursor.{way_or_read}
+use Rattle.semantic_model.specs.Cursor.{way_or_read, on_entering}
 use Rattle.semantic_model.specs.ScopeKind.{flags_of_kind, strict_if}
 use Rattle.walk_model.specs.WalkState.{WalkState}
 use Rattle.walk_model.specs.Opens.{refer_to, open_in}
@@ -85,6 +85,10 @@ place_in w r node = record {
 -- the node is entered where the walk stands, if nodes are kept
 abbrev pub noting_node : Walker → Node → Walker
 noting_node w node = record w { nodes = option_map (λ e. entering e node w.current) w.nodes }
+
+-- the walk has stepped to the node
+abbrev pub stepped_to : Walker → Node → Walker
+stepped_to w node = record (noting_node w node) { path = w.path ++ node ∷ []; cursor = on_entering node.kind w.cursor }
 
 -- the node is a reference where the walk stands, under its cursor
 abbrev pub referring : Walker → Node → Walker

@@ -9,6 +9,7 @@ ghost use Rattle.semantic_walk.specs.Begun.{IsBegun};
 ghost use Rattle.semantic_walk.specs.Listed.{list_kept};
 ghost use Rattle.semantic_model.specs.Label.{unused_labels};
 
+use crate::doings::Doings;
 use crate::settings::Settings;
 use crate::walk::Walk;
 use check_context::Rules;
@@ -57,9 +58,11 @@ fn run<'a, L, R: Rules>(
 {
     walk.reserve(settings.room)?;
     let root = program.root();
-    walk.visit(root, Role::Root, rules, steps)?;
+    let doings = Doings::of(root.ty());
+    walk.enter(root, doings)?;
+    walk.walk_below(root, Role::Root, doings, rules, steps)?;
     walk.end(steps)?;
-    walk.leave(root, rules)?;
+    walk.leave(root, doings, rules)?;
     walk.tell_rest()
 }
 

@@ -4,6 +4,7 @@
 pub mod analysis;
 pub mod binder;
 mod block_target;
+mod doings;
 pub mod laws;
 mod on_leaving;
 pub mod path;

@@ -51,6 +51,17 @@ fn is_list(kind: AstKind<'_>) -> bool
     kind.ty() == AstType::FormalParameters
 }
 
+/// Notes of a list of parameters whether it is simple. This stands apart, as few nodes are lists.
+#[inline(never)]
+fn note_simple(simple: &mut Vec<bool>, list: AstKind<'_>) -> Result<(), AllocError>
+    ensures ok { OnOk result (simple.new.items
+        ≡ simple.old.items ++ is_simple_parameter_list list.entry.node.now ∷ []) }
+    ensures err { OnErr result (simple.new.items ≡ simple.old.items) }
+{
+    simple.push(list.is_simple_parameter_list())?;
+    Ok(())
+}
+
 /// Notes of a node whether it is a simple list of parameters, if it is a list.
 #[inline(always)]
 fn note_list(simple: &mut Vec<bool>, kind: AstKind<'_>) -> Result<(), AllocError>
@@ -59,9 +70,10 @@ fn note_list(simple: &mut Vec<bool>, kind: AstKind<'_>) -> Result<(), AllocError
     ensures err { OnErr result (simple.new.items ≡ simple.old.items) }
 {
     if is_list(kind) {
-        simple.push(kind.is_simple_parameter_list())?;
+        note_simple(simple, kind)
+    } else {
+        Ok(())
     }
-    Ok(())
 }
 
 /// Forgets the last list, if the walk leaves one.
@@ -86,6 +98,21 @@ fn keeps(store: &AstNodeStore<'_>) -> bool
     }
 }
 
+/// Enters a node in a store that keeps the nodes. This stands apart, as most walks keep none.
+#[inline(never)]
+fn enter_kept<'a>(
+    store: &mut AstNodeStore<'a>,
+    kind: AstKind<'a>,
+    scope: ScopeId,
+) -> Result<(), AllocError>
+    requires { IsWalked store.old }
+    ensures entered { OnOk result (entered_in store.new
+        ≡ option_map (λ e. entering e kind.entry.node.now scope) (entered_in store.old)) }
+    ensures stands { IsWalked store.new }
+{
+    store.enter(kind, scope)
+}
+
 /// Enters a node in the store, if that keeps the nodes that are entered.
 #[inline(always)]
 fn keep<'a>(
@@ -99,7 +126,7 @@ fn keep<'a>(
     ensures stands { IsWalked store.new }
 {
     if keeps(store) {
-        store.enter(kind, scope)
+        enter_kept(store, kind, scope)
     } else {
         Ok(())
     }
@@ -139,6 +166,7 @@ impl<'a> Path<'a> {
     }
 
     /// Comes to a node, which stands in the scope.
+    #[inline(always)]
     pub fn push(&mut self, kind: AstKind<'a>, scope: ScopeId) -> Result<(), AllocError>
         ensures { OnOk result (self.new ≡ record {
           nodes = self.old.nodes ++ kind.entry.node.now ∷ [];
@@ -155,6 +183,7 @@ impl<'a> Path<'a> {
     }
 
     /// Leaves the last node.
+    #[inline(always)]
     pub fn pop(&mut self)
         ensures { self.new ≡ record {
           nodes = take (length self.old.nodes - 1) self.old.nodes;

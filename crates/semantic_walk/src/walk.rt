@@ -25,7 +25,7 @@ ghost use Rattle.walk_model.specs.Probes.{probes_in_end};
 ghost use Rattle.table_building.specs.Settled.{settled_from, probes_from};
 ghost use Rattle.node_rules.specs.Seen.{parent_path};
 ghost use Rattle.semantic_walk.specs.Paths.{parent_in};
-ghost use Rattle.semantic_walk.specs.Walker.{place_in, noting_node, referring, opening_in, taking_over, telling_of};
+ghost use Rattle.semantic_walk.specs.Walker.{Walker, place_in, stepped_to, referring, opening_in, taking_over, telling_of};
 ghost use Rattle.semantic_walk.specs.Listed.{list_kept};
 ghost use Rattle.walk_notes.specs.NoteLists.{noting, leaving as leaving_notes};
 ghost use Rattle.node_store.specs.Entered.{leaving};
@@ -38,9 +38,10 @@ ghost use Rattle.semantic_walk.specs.Leaving.{IsFit, ShowsRows};
 ghost use Rattle.table_building.specs.Growth.{Grows, Goes};
 ghost use Rattle.semantic_model.specs.Declaration.{Declaration};
 ghost use Rattle.semantic_walk.specs.Binds.{block_target, is_bound_inside, acting};
-ghost use Rattle.semantic_walk.specs.AtPlace.{ComesTo, IsWithin, IsShown, entered, kept_at, left_at};
+ghost use Rattle.semantic_walk.specs.AtPlace.{ComesTo, IsWithin, IsShown, walked_into, left_at};
 
 use crate::analysis::Analysis;
+use crate::doings::Doings;
 use crate::on_leaving::tell_leaving;
 use crate::path::Path;
 use crate::settings::{Room, Settings};
@@ -49,7 +50,6 @@ use namespace_states::NamespaceStates;
 use node_rules::ambient::is_ambient_inside;
 use node_rules::cursor;
 use node_rules::direct_eval::is_direct_eval;
-use node_rules::even::acts_on_entering;
 use node_rules::rows::is_statement;
 use node_rules::scope_kind::{flags_of, root_flags};
 use semantic_diagnostics::Diagnostics;
@@ -58,7 +58,7 @@ use semantic_tree::{AstKind, AstType, Mark, Program, Role};
 use std::alloc::{AllocError, Global};
 use std::marker::Model;
 use table_building::declared::Declared;
-use walk_notes::notes::{is_noted, is_noted_behind};
+use walk_notes::notes::is_noted;
 use walk_notes::{LazyNamesakes, Notes};
 
 /// The walker's state: what the walk has made so far, and where it stands.
@@ -202,31 +202,69 @@ impl<'a> Walk<'a> {
         }
     }
 
-    /// Notes what is left of classes and labels.
-    fn note_behind(&mut self, kind: AstKind<'a>) -> Result<(), AllocError>
+    /// Notes what is left of a class or a label. This stands apart, as few nodes are that.
+    #[inline(never)]
+    fn leave_noted(&mut self, kind: AstKind<'a>) -> Result<(), AllocError>
         ensures made { OnOk result (self.new
             ≡ record self.old { notes = leaving_notes kind.entry.node.now self.old.notes }) }
         ensures goes { OnOk result (Goes self.old.made self.new.made) }
     {
-        if is_noted_behind(kind.ty()) {
-            self.notes.leave(kind)
+        self.notes.leave(kind)
+    }
+
+    /// Notes what is left of classes and labels.
+    #[inline(always)]
+    fn note_behind(&mut self, kind: AstKind<'a>, doings: Doings) -> Result<(), AllocError>
+        requires { doings ≡ kind.node.now.kind }
+        ensures made { OnOk result (self.new
+            ≡ record self.old { notes = leaving_notes kind.entry.node.now self.old.notes }) }
+        ensures goes { OnOk result (Goes self.old.made self.new.made) }
+    {
+        if doings.is_noted_behind() {
+            self.leave_noted(kind)
         } else {
             Ok(())
         }
     }
 
+    /// The cursor is that on entering a node of the kind.
+    #[inline(always)]
+    fn turn_on_entering(&mut self, doings: Doings)
+        ensures made { self.new ≡ record self.old { cursor = on_entering doings self.old.cursor } }
+        ensures goes { Goes self.old.made self.new.made }
+    {
+        if doings.moves_cursor() {
+            self.current_reference_flags = cursor::on_entering(
+                doings.kind(),
+                self.current_reference_flags,
+            );
+        }
+    }
+
+    /// The cursor is that on leaving a node of the kind.
+    #[inline(always)]
+    fn turn_on_leaving(&mut self, doings: Doings)
+        ensures made { self.new ≡ record self.old { cursor = on_leaving doings self.old.cursor } }
+        ensures goes { Goes self.old.made self.new.made }
+    {
+        if doings.moves_cursor() {
+            self.current_reference_flags = cursor::on_leaving(
+                doings.kind(),
+                self.current_reference_flags,
+            );
+        }
+    }
+
     /// Steps to a node: it stands on the path, and the cursor is that on entering it.
     #[tactic(auto, using(crate::proofs::Going::going, table_building::proofs::Growing::growing))]
-    fn step_to(&mut self, kind: AstKind<'a>) -> Result<(), AllocError>
-        ensures made { OnOk result (self.new
-            ≡ record (noting_node self.old kind.entry.node.now) {
-              path = self.old.path ++ kind.entry.node.now ∷ [];
-              cursor = on_entering kind.entry.node.now.kind self.old.cursor;
-            }) }
+    #[inline(always)]
+    fn step_to(&mut self, kind: AstKind<'a>, doings: Doings) -> Result<(), AllocError>
+        requires { doings ≡ kind.node.now.kind }
+        ensures made { OnOk result (self.new ≡ stepped_to self.old kind.entry.node.now) }
         ensures goes { OnOk result (Goes self.old.made self.new.made) }
     {
         self.path.push(kind, self.current_scope)?;
-        self.current_reference_flags = cursor::on_entering(kind.ty(), self.current_reference_flags);
+        self.turn_on_entering(doings);
         Ok(())
     }
 
@@ -276,24 +314,35 @@ impl<'a> Walk<'a> {
 
     /// Enters a node: what it declares outside of its own scope is declared, and references, classes and labels are
     /// noted.
-    pub(crate) fn enter(&mut self, kind: AstKind<'a>) -> Result<(), AllocError>
-        requires { MayEnter self.old kind.node.now }
+    #[inline(always)]
+    pub(crate) fn enter(&mut self, kind: AstKind<'a>, doings: Doings) -> Result<(), AllocError>
+        requires ids { MayEnter self.old kind.node.now }
+        requires kind { doings ≡ kind.node.now.kind }
         ensures walks { (ds : List Declaration) (p : Place) → p.node ≡ kind.entry.node.now
             → ComesTo self.old p → IsShown ds self.old p →
-            OnOk result (self.new
-            ≡ record self.old {
-              made = entered ds self.old p;
-              path = self.old.path ++ p.node ∷ [];
-              cursor = on_entering p.node.kind p.cursor;
-              nodes = kept_at self.old p;
-              notes = noting p.path p.node self.old.notes;
-            }) }
+            OnOk result (self.new ≡ walked_into ds self.old p) }
         ensures goes { OnOk result (Goes self.old.made self.new.made) }
     {
-        self.step_to(kind)?;
-        if !acts_on_entering(kind.ty()) {
-            return Ok(());
+        self.step_to(kind, doings)?;
+        if doings.acts_on_entering() {
+            self.act_on_entering(kind)
+        } else {
+            Ok(())
         }
+    }
+
+    /// At a node to which the walk has stepped: what it declares outside of its own scope is declared, and references,
+    /// classes and labels are noted. This stands apart, since most nodes only carry what is below them.
+    #[inline(never)]
+    fn act_on_entering(&mut self, kind: AstKind<'a>) -> Result<(), AllocError>
+        requires references { length self.old.made.tables.references < u32.MAX }
+        requires ids { is_bound_inside kind.node.now ≡ false → HasIds self.old kind.node.now }
+        ensures walks { (ds : List Declaration) (w : Walker) (p : Place)
+            → p.node ≡ kind.entry.node.now → ComesTo w p → IsShown ds w p
+            → self.old ≡ stepped_to w kind.entry.node.now →
+            OnOk result (self.new ≡ walked_into ds w p) }
+        ensures goes { OnOk result (Goes self.old.made self.new.made) }
+    {
         self.note_reference(kind)?;
         self.note_eval(kind);
         self.declare(kind, false)?;
@@ -301,6 +350,7 @@ impl<'a> Walk<'a> {
     }
 
     /// Notes a reference, which waits in the current scope.
+    #[inline(never)]
     pub(crate) fn refer(&mut self, kind: AstKind<'a>) -> Result<(), AllocError>
         requires { length self.old.made.tables.references < u32.MAX }
         ensures made { OnOk result (self.new ≡ referring self.old kind.entry.node.now) }
@@ -395,7 +445,9 @@ impl<'a> Walk<'a> {
     }
 
     /// Steps from a node: it leaves the path, and the cursor is that on leaving it.
-    fn step_from(&mut self, kind: AstKind<'a>) -> Result<(), AllocError>
+    #[inline(always)]
+    fn step_from(&mut self, kind: AstKind<'a>, doings: Doings) -> Result<(), AllocError>
+        requires { doings ≡ kind.node.now.kind }
         ensures made { OnOk result (self.new
             ≡ record self.old {
               path = take (length self.old.path - 1) self.old.path;
@@ -405,8 +457,8 @@ impl<'a> Walk<'a> {
             }) }
         ensures goes { OnOk result (Goes self.old.made self.new.made) }
     {
-        self.note_behind(kind)?;
-        self.current_reference_flags = cursor::on_leaving(kind.ty(), self.current_reference_flags);
+        self.note_behind(kind, doings)?;
+        self.turn_on_leaving(doings);
         self.path.pop();
         Ok(())
     }
@@ -449,32 +501,46 @@ impl<'a> Walk<'a> {
     /// What is wrong with the node is told, and it is left. This stands apart, so that leaving a node takes no room for
     /// what is handed to checks where they are off.
     #[inline(never)]
-    fn tell_and_leave<R: Rules>(&mut self, kind: AstKind<'a>, rules: &R) -> Result<(), AllocError>
-        requires { self.old.checks ≡ true → IsFit self.old kind.node.now }
+    fn tell_and_leave<R: Rules>(
+        &mut self,
+        kind: AstKind<'a>,
+        doings: Doings,
+        rules: &R,
+    ) -> Result<(), AllocError>
+        requires kind { doings ≡ kind.node.now.kind }
+        requires fit { self.old.checks ≡ true → IsFit self.old kind.node.now }
         ensures made { (p : Place) → p.node ≡ kind.entry.node.now → ShowsRows self.old p
             → OnOk result (self.new ≡ left_at self.old p) }
         ensures goes { OnOk result (Goes self.old.made self.new.made) }
     {
         self.tell(kind, rules)?;
-        self.step_from(kind)
+        self.step_from(kind, doings)
     }
 
     /// Leaves the node that is visited, which stands on the path until the end. With checks on, what is wrong with it is
     /// told.
-    pub(crate) fn leave<R: Rules>(&mut self, kind: AstKind<'a>, rules: &R) -> Result<(), AllocError>
-        requires { self.old.checks ≡ true → IsFit self.old kind.node.now }
+    #[inline(always)]
+    pub(crate) fn leave<R: Rules>(
+        &mut self,
+        kind: AstKind<'a>,
+        doings: Doings,
+        rules: &R,
+    ) -> Result<(), AllocError>
+        requires kind { doings ≡ kind.node.now.kind }
+        requires fit { self.old.checks ≡ true → IsFit self.old kind.node.now }
         ensures made { (p : Place) → p.node ≡ kind.entry.node.now → ShowsRows self.old p
             → OnOk result (self.new ≡ left_at self.old p) }
         ensures goes { OnOk result (Goes self.old.made self.new.made) }
     {
         if self.checks {
-            self.tell_and_leave(kind, rules)
+            self.tell_and_leave(kind, doings, rules)
         } else {
-            self.step_from(kind)
+            self.step_from(kind, doings)
         }
     }
 
     /// At the end of a header the references that wait since its start are looked up as far as its scope.
+    #[inline(never)]
     pub(crate) fn end_header<L>(
         &mut self,
         scope: ScopeId,

@@ -1,9 +1,11 @@
 pub mod Outcomes
 pub mod Numbered
+pub mod Marked
 pub mod Ways
 pub mod Passing
 pub mod Growing
 pub mod Grown
+pub mod Claims
 pub mod Waiting
 pub mod Settling
 pub mod Outside

@@ -8,3 +8,4 @@ pub mod Each
 pub mod Named
 pub mod Conflicting
 pub mod Numbered
+pub mod Marked

@@ -4,6 +4,7 @@ use Rattle.std.specs.List.{AllByRecursion}
 use Rattle.semantic_syntax.specs.Tables.{Name}
 use Rattle.scoping_rows.specs.Names.{name_at}
 use Rattle.semantic_model.specs.Binding.{Binding}
+use Rattle.table_building.specs.Marked.{AreMarked}
 use Rattle.table_building.specs.declared.hoisting_variables.HoistingVariables.TheInside.{Inside}
 
 -- an entry with the name in place of its number
@@ -20,5 +21,7 @@ AreNumbered count es = AllByRecursion (λ e. e.0.1 < count) es
 abbrev pub remembered : Inside → List Binding
 remembered r = bindings_named r.names r.symbols.entries
 
-abbrev pub IsNumberedTable : Inside → Type 0
-IsNumberedTable r = AreNumbered (length r.names) r.symbols.entries
+-- and each scope that remembers one is marked
+pub record IsNumberedTable (r : Inside) : Type 0 where
+  pub numbered : AreNumbered (length r.names) r.symbols.entries
+  pub marked : AreMarked r.remembering r.symbols.entries

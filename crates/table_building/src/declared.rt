@@ -1,12 +1,13 @@
 //! What the walk has made so far, and how one more declaration comes to its symbol.
 
-ghost use Rattle.std.specs.Prelude.{◌≡◌, ◌<◌, ◌++◌, None, length, map, drop, option_map, fold, IfSome, IfOk, OnOk};
+ghost use Rattle.std.specs.Prelude.{◌≡◌, ◌<◌, ◌++◌, None, Some, unwrap_or, length, map, drop, option_map, fold, IfSome, IfOk, OnOk};
 ghost use Rattle.std.specs.Str.{bytes_eq};
 ghost use Rattle.std.specs.Map.{lookup};
+ghost use Rattle.std.specs.Option.{option_map_or};
 ghost use Rattle.scoping_rows.specs.Names.{name_of};
-ghost use Rattle.semantic_syntax.specs.Reading.{scope_of, bound_in};
+ghost use Rattle.semantic_syntax.specs.Reading.{scope_of, bound_in, symbol_flags};
 ghost use Rattle.semantic_model.specs.Binding.{get};
-ghost use Rattle.semantic_model.specs.Fold.{or_else};
+ghost use Rattle.semantic_model.specs.Fold.{or_else, unless_expression};
 ghost use Rattle.walk_model.specs.Opens.{open_in};
 ghost use Rattle.walk_model.specs.WalkState.{nothing_made};
 ghost use Rattle.walk_model.specs.Declares as walked;
@@ -311,6 +312,86 @@ impl<'a> Declared<'a> {
     /// Declares in a scope: what is found there is declared once more, else a new symbol is bound. Gives the
     /// symbol.
     pub(crate) fn symbol_in(
+        &mut self,
+        scope: ScopeId,
+        declaration: &Declaration<'a>,
+    ) -> Result<SymbolId, AllocError>
+        requires scope { scope < length self.old.tables.scopes }
+        requires room { length self.old.tables.symbols < u32.MAX }
+        ensures made { OnOk result
+            (self.new ≡ walked.with_symbol_in self.old scope (naming declaration.now)) }
+        ensures symbol { IfOk result
+            (λ y. y ≡ walked.symbol_in self.old scope (naming declaration.now)) }
+        ensures goes { Goes self.old self.new }
+        ensures within { IfOk result (λ y. y < length self.new.tables.symbols) }
+    {
+        if self.hoisting_variables.remembers(scope) {
+            return self.symbol_among(scope, declaration);
+        }
+        let new = SymbolId::new(self.scoping.symbols_len() as u32);
+        match self.claim(scope, declaration)? {
+            Some(symbol) => self.symbol_again(scope, symbol, declaration),
+            None => Ok(new),
+        }
+    }
+
+    /// Makes a new symbol, which the scope binds, unless it binds the name; then gives the symbol that it is bound to.
+    fn claim(
+        &mut self,
+        scope: ScopeId,
+        declaration: &Declaration<'a>,
+    ) -> Result<Option<SymbolId>, AllocError>
+        requires scope { scope < length self.old.tables.scopes }
+        requires room { length self.old.tables.symbols < u32.MAX }
+        ensures bound { IfOk result
+            (λ o. o ≡ bound_in self.old.tables scope (naming declaration.now).name) }
+        ensures made { OnOk result
+            (self.new ≡ option_map_or (λ y. self.old)
+            (bound_in self.old.tables scope (naming declaration.now).name)
+            (walked.make self.old scope (naming declaration.now))) }
+        ensures goes { Goes self.old self.new }
+        ensures within { IfOk result (λ o. IfSome o (λ y. y < length self.old.tables.symbols)) }
+    {
+        self.scoping.attest();
+        self.scoping.claim(
+            declaration.span,
+            Ident::new(declaration.name),
+            declaration.row.flags,
+            scope,
+            declaration.node,
+        )
+    }
+
+    /// Declares in a scope that binds the name to the symbol. The own name of a function expression counts as none, so a
+    /// new symbol takes its place.
+    fn symbol_again(
+        &mut self,
+        scope: ScopeId,
+        symbol: SymbolId,
+        declaration: &Declaration<'a>,
+    ) -> Result<SymbolId, AllocError>
+        requires scope { scope < length self.old.tables.scopes }
+        requires symbol { symbol < length self.old.tables.symbols }
+        requires room { length self.old.tables.symbols < u32.MAX }
+        ensures made { OnOk result
+            (self.new ≡ walked.with_found_symbol self.old scope (naming declaration.now)
+            (unless_expression (symbol_flags self.old.tables) (Some symbol))) }
+        ensures symbol { IfOk result
+            (λ y. y ≡ unwrap_or (unless_expression (symbol_flags self.old.tables) (Some symbol))
+            (length self.old.tables.symbols)) }
+        ensures goes { Goes self.old self.new }
+        ensures within { IfOk result (λ y. y < length self.new.tables.symbols) }
+    {
+        let flags = self.scoping.symbol_flags(symbol);
+        if flags.intersects(SymbolFlags::FunctionExpression) {
+            return self.make(scope, declaration);
+        }
+        self.unite(symbol, declaration)?;
+        Ok(symbol)
+    }
+
+    /// Declares in a scope that may remember the name.
+    fn symbol_among(
         &mut self,
         scope: ScopeId,
         declaration: &Declaration<'a>,

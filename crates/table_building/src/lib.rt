@@ -8,6 +8,7 @@ pub mod hoist;
 pub mod hoisting_variables;
 pub mod names;
 pub mod route;
+pub mod scope_marks;
 pub mod scopes;
 pub mod settle;
 

@@ -34,6 +34,8 @@ use Rattle.semantic_model.proofs.steps.TurnCases.{opening_case, ending_case, las
 use Rattle.walk_model.proofs.places.Shapes.{holds_below}
 use Rattle.semantic_model.specs.TablesOf.{made_of}
 use Rattle.binding_laws.specs.SeenDeclarations.{bound_by_all}
+use Rattle.binding_laws.proofs.ChildChains.{ChainOf, outer_chain, inner_chain, OwnOf, own_of, chain_of}
+use Rattle.binding_laws.proofs.ScopeOpeners.{openers, IsOpened, AllOpened, IsPlaceOpened, places_opened}
 use Rattle.binding_laws.proofs.SymbolsAtNodes.{symbols_are_at_nodes}
 use Rattle.typescript_ties.specs.Containers.{Container, same_container_kind, same_members, same_container, is_container, no_container, outside_function, containers_by}
 use Rattle.typescript_ties.specs.MeaningSets.{MeaningSet, sort_meanings}
@@ -43,14 +45,12 @@ use Rattle.typescript_ties.specs.SeenTogether.{is_in_scope, is_seen_from, bound_
 use Rattle.typescript_ties.specs.SimpleNames.{is_common_child, is_common_forest, is_common, is_apart, is_simple_sort, IsSimplyDeclared, HasOwnMembers, StandsWithTypes, is_way_of}
 use Rattle.typescript_ties.specs.declared.container_kind.ContainerKind.TheVariants as container
 use Rattle.typescript_ties.specs.declared.declaration_sort.DeclarationSort.TheVariants as sort
-use Rattle.typescript_ties.proofs.ChildChains.{ChainOf, outer_chain, inner_chain, OwnOf, own_of, chain_of}
 use Rattle.typescript_ties.proofs.ChildPlaces.{tells_inside, told_by_kind, tree_tells, tells_header, tree_headed}
 use Rattle.typescript_ties.proofs.FitsTogether.{any_meets, AreBoundAs, bound_as_one, is_asked, WayAsks, way_asks}
 use Rattle.typescript_ties.proofs.HeadPlaces.{IsCommonPlace, CommonStep, common_places, round_place}
 use Rattle.typescript_ties.proofs.OutsideGroups.{IsAside, aside_of}
 use Rattle.typescript_ties.proofs.Pairs.{container_kind_is}
 use Rattle.typescript_ties.proofs.ScopeMembers.{SeenAs, seen_as, in_header_types, SeenToo, seen_too}
-use Rattle.typescript_ties.proofs.ScopeOpeners.{openers, IsOpened, AllOpened, IsPlaceOpened, places_opened}
 use Rattle.typescript_ties.proofs.SimpleDeclarations.{IsBoth, of_language, made_so, one_symbol}
 use Rattle.typescript_ties.proofs.UndeclaredFree.{OfEntered, IsEnteredIn, all_entered}
 

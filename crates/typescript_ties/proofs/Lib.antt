@@ -3,14 +3,10 @@ pub mod Rows
 pub mod KnownPlaces
 pub mod DeclaredAlike
 pub mod UndeclaredFree
-pub mod OtherNames
 pub mod PlainFold
 pub mod TiedTogether
 pub mod ChildPlaces
 pub mod Heads
-pub mod EnteredOnce
-pub mod ScopeOpeners
-pub mod ChildChains
 pub mod HeadPlaces
 pub mod Pairs
 pub mod SimpleDeclarations
@@ -20,7 +16,6 @@ pub mod GroupNodes
 pub mod ScopeMembers
 pub mod OutsideGroups
 pub mod AgreedPlaces
-pub mod ReferredNodes
 pub mod UntangledTies
 pub mod MergedBlocks
 pub mod SharedMembers

@@ -11,12 +11,12 @@ use Rattle.semantic_model.specs.Entries.{Among}
 use Rattle.semantic_model.specs.Step.{Step, entering, opening, header_ending, closing, leaving}
 use Rattle.semantic_model.specs.TablesOf.{opened_entry}
 use Rattle.semantic_model.proofs.once.ListedUnder.{name_tells}
+use Rattle.binding_laws.proofs.ScopeOpeners.{openers}
 use Rattle.tangle_model.specs.Mention.{Mention}
 use Rattle.tangle_model.specs.Repeated.{Key, same_key, is_mention_of, key_of, keys_of, key_stands, repeats}
 use Rattle.tangle_model.specs.Tangled.{is_merged, merged_openers}
 use Rattle.tangle_model.specs.declared.what.What.TheVariants as what
 use Rattle.typescript_ties.proofs.AgreedPlaces.{filter_among}
-use Rattle.typescript_ties.proofs.ScopeOpeners.{openers}
 
 never : true ≡ false → ⊥
 never h = absurd cc

@@ -24,8 +24,9 @@ use Rattle.semantic_model.proofs.lists.Members.{among_more}
 use Rattle.semantic_model.proofs.lists.SymbolLaws.{get-update, get-push, get-last, get_within}
 use Rattle.semantic_model.proofs.once.ListedUnder.{name_tells}
 use Rattle.binding_laws.specs.SeenDeclarations.{seen_alone, with_declaration, bound_by_all}
+use Rattle.binding_laws.proofs.Growing.{other_flags, rescoped_flags}
+use Rattle.binding_laws.proofs.OtherNames.{LeavesName, leaves_name}
 use Rattle.typescript_ties.specs.SeenTogether.{IsPlainDeclaration, is_in_scope}
-use Rattle.typescript_ties.proofs.OtherNames.{LeavesName, leaves_name, flags_rescoped, flags_apart}
 
 -- ---- lists
 
@@ -216,7 +217,7 @@ module _ (table : List (Option ℕ)) where
 
         old_seen : (c : ℕ) (o : Option ℕ) → get st.bindings c x ≡ o → (t ≡ c → ⊥) → seen_as next o ≡ seen_as st o
         old_seen c None f k = refl
-        old_seen c (Some r) f k = ap (seen_with r) (flags_apart join st.symbols s r (λ i. k (h.apart t c s g (f ∙ ap Some (sym i)))))
+        old_seen c (Some r) f k = ap (seen_with r) (other_flags join st.symbols s r (λ i. k (h.apart t c s g (f ∙ ap Some (sym i)))))
 
         counted : (c : ℕ) → seen_as next (get st.bindings c x) ≡ bound_by_all (filter (is_in_scope c x) (st.made ++ m ∷ []))
         counted c = elim (eqb_tells t c) [
@@ -283,7 +284,7 @@ module _ (table : List (Option ℕ)) where
 
     same_seen : (o : Option ℕ) → seen_as (act st (takes_over c b)) o ≡ seen_as st o
     same_seen None = refl
-    same_seen (Some y) = ap (seen_with y) (flags_rescoped st.symbols (bound_by st.bindings c) b y)
+    same_seen (Some y) = ap (seen_with y) (rescoped_flags st.symbols (bound_by st.bindings c) b y)
 
     taken_state : PlainState x (act st (takes_over c b))
     taken_state = record {

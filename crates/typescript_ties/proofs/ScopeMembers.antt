@@ -23,6 +23,8 @@ use Rattle.semantic_model.specs.Step.{entering, steps}
 use Rattle.semantic_model.proofs.once.ListedUnder.{name_tells}
 use Rattle.semantic_model.specs.TablesOf.{made_of}
 use Rattle.binding_laws.specs.SeenDeclarations.{is_own_name, stands_before_body, is_before_body}
+use Rattle.binding_laws.proofs.EnteredOnce.{entered_once}
+use Rattle.binding_laws.proofs.ScopeOpeners.{openers, IsOpened, one_scope}
 use Rattle.typescript_ties.specs.Containers.{Container, MemberPath, same_container_kind, same_names, same_members, same_container, is_container, is_of_signature, containers_by}
 use Rattle.typescript_ties.specs.NamedDeclarations.{NamedDeclaration, named_in}
 use Rattle.typescript_ties.specs.Resolved.{has_declared}
@@ -31,11 +33,9 @@ use Rattle.typescript_ties.specs.SimpleNames.{is_common, is_simple_sort, is_apar
 use Rattle.typescript_ties.specs.declared.container_kind.ContainerKind.{ContainerKind}
 use Rattle.typescript_ties.specs.declared.container_kind.ContainerKind.TheVariants as container
 use Rattle.typescript_ties.proofs.ChildPlaces.{same_truth, is_function, tells_inside, told_by_kind, tells_header}
-use Rattle.typescript_ties.proofs.EnteredOnce.{entered_once}
 use Rattle.typescript_ties.proofs.Groups.{GroupMember, member_of}
 use Rattle.typescript_ties.proofs.HeadPlaces.{IsHeaded, HasOrigin, IsCommonPlace, round_place}
 use Rattle.typescript_ties.proofs.Pairs.{container_kind_is}
-use Rattle.typescript_ties.proofs.ScopeOpeners.{openers, IsOpened, one_scope}
 use Rattle.typescript_ties.proofs.SimpleDeclarations.{IsBoth, of_tables, of_language, of_made, made_so}
 
 never : true ≡ false → ⊥

@@ -24,9 +24,10 @@ use Rattle.semantic_model.proofs.fold.Orders.{Adds, adds}
 use Rattle.semantic_model.proofs.form.Shape.{has_form}
 use Rattle.semantic_model.proofs.lists.Members.{among_left, among_right, among_last}
 use Rattle.program_laws.proofs.DeclaredNodes.{among_flat}
-use Rattle.binding_laws.specs.OneSymbol.{NoneTakes, BindsIn, takes_by, first_scope}
 use Rattle.semantic_model.specs.TablesOf.{made_of}
+use Rattle.binding_laws.specs.OneSymbol.{NoneTakes, BindsIn, takes_by, first_scope}
 use Rattle.binding_laws.proofs.OneSymbolEach.{one_symbol_each}
+use Rattle.binding_laws.proofs.ScopeOpeners.{openers, IsOpened, IsPlaceOpened, innermost_opened, places_opened, root_opener}
 use Rattle.typescript_ties.specs.Containers.{Container}
 use Rattle.typescript_ties.specs.DeclaredNames.{told_to_tables, told_by_language}
 use Rattle.typescript_ties.specs.NamedDeclarations.{NamedDeclaration, named_declaration, named_by_node, named_at, named_in}
@@ -37,7 +38,6 @@ use Rattle.typescript_ties.specs.declared.declaration_sort.DeclarationSort.TheVa
 use Rattle.typescript_ties.proofs.HeadPlaces.{IsCommonPlace, CommonStep, common_places}
 use Rattle.typescript_ties.proofs.KnownPlaces.{IsKnownPlace, KnownStep, known_places}
 use Rattle.typescript_ties.proofs.Pairs.{IsAtHome, IsSimplePair, AllPairs, pair_of_written, pair_of_named, pairs_by}
-use Rattle.typescript_ties.proofs.ScopeOpeners.{openers, IsOpened, IsPlaceOpened, places_opened, innermost_opened}
 use Rattle.typescript_ties.proofs.UndeclaredFree.{each_among, IsWritten, is_written, not_index, named_among}
 
 never : true ≡ false → ⊥
@@ -118,7 +118,7 @@ module _ (p : Tree) (h : first_fault p ≡ None) (common : is_common p ≡ true)
 
   opened_at : (w : Declaration) (n : NamedDeclaration) → IsAtHome p w n → IsOpened (openers (steps p)) w.route.target
   opened_at w n home = subst (IsOpened (openers (steps p))) (sym home.target)
-      (innermost_opened p (has_form p h).root numbered home.place.chain (each_among (IsPlaceOpened (openers (steps p))) (steps p) (entering home.place) (places_opened p) home.entered))
+      (innermost_opened (openers (steps p)) (root_opener p (has_form p h).root numbered) home.place.chain (each_among (IsPlaceOpened (openers (steps p))) (steps p) (entering home.place) (places_opened p) home.entered))
 
   stays_placed : (how : How) (w : Declaration) → how ≡ plain → placed_by how ds w ≡ w
   stays_placed plain w e = refl

@@ -40,6 +40,7 @@ use Rattle.semantic_model.proofs.once.ReferencesStand.{stand_once}
 use Rattle.program_laws.specs.SymbolNames.{IsNamed}
 use Rattle.program_laws.proofs.TiedNames.{ties_have_names, declarations_have_names}
 use Rattle.binding_laws.specs.SeenDeclarations.{seen_alone, with_declaration, bound_by_all, is_before_body, stands_before_body}
+use Rattle.binding_laws.proofs.ReferredNodes.{IsReferred, is_referred}
 use Rattle.tangle_model.specs.Mention.{mentions}
 use Rattle.tangle_model.specs.Tangled.{is_inner_alias, may_be_passed, is_merged_member, is_name_of, is_shared, any_symbol, holds_in, all_reasons, tangle_reasons}
 use Rattle.tangle_model.specs.declared.reason.Reason.{Reason}
@@ -55,7 +56,6 @@ use Rattle.typescript_ties.proofs.FitsTogether.{meets_union, AreBoundAs, bound_a
 use Rattle.typescript_ties.proofs.HeadPlaces.{round_place}
 use Rattle.typescript_ties.proofs.OwnMembers.{own_members}
 use Rattle.typescript_ties.proofs.PlainFold.{PlainState}
-use Rattle.typescript_ties.proofs.ReferredNodes.{IsReferred, is_referred}
 use Rattle.typescript_ties.proofs.SimpleDeclarations.{is_plain, one_symbol}
 use Rattle.typescript_ties.proofs.TiedTogether.{in_end, tied_together}
 use Rattle.typescript_ties.proofs.UndeclaredFree.{each_among}

@@ -37,7 +37,10 @@ use Rattle.semantic_model.proofs.steps.EachStep.{EachOfTurn, each_left, each_of_
 use Rattle.semantic_model.proofs.steps.Turn.{Turn, turn_at}
 use Rattle.semantic_model.proofs.steps.TurnCases.{opening_case, ending_case, last_case}
 use Rattle.walk_model.proofs.places.Shapes.{holds_below}
+use Rattle.binding_laws.proofs.ChildChains.{ChainOf, outer_chain, inner_chain, OwnOf, own_of, no_decorator, chain_of}
 use Rattle.binding_laws.proofs.CutSteps.{WillAwait}
+use Rattle.binding_laws.proofs.EnteredOnce.{entered_once}
+use Rattle.binding_laws.proofs.ScopeOpeners.{openers, IsOpened, AllOpened}
 use Rattle.language_ties.specs.AgreeingNames.{IsPlainName, StandsInExpressions}
 use Rattle.language_ties.specs.Bound.{Bound, is_bound_as}
 use Rattle.language_ties.specs.EcmaScript.{is_ecmascript}
@@ -49,7 +52,6 @@ use Rattle.language_ties.specs.SharedSymbols.{AllKeepClear}
 use Rattle.language_ties.specs.declared.bound_as.BoundAs.TheVariants as way
 use Rattle.language_ties.specs.declared.environment_kind.EnvironmentKind.{EnvironmentKind}
 use Rattle.language_ties.specs.declared.environment_kind.EnvironmentKind.TheVariants as environment
-use Rattle.language_ties.proofs.agree.EnteredOnce.{entered_once}
 use Rattle.language_ties.proofs.agree.FamiliarPlaces.{stands_well, is_function_kind, IsFamiliar, FamiliarAt, familiar_program}
 use Rattle.language_ties.proofs.agree.FunctionKinds.{function_kinds, arrow_kinds, IsOrdinary}
 use Rattle.language_ties.proofs.agree.Identifiers.{identifier_here, meaning_further, meaning_here}
@@ -59,7 +61,6 @@ use Rattle.language_ties.proofs.agree.MadeEnvironments.{may_make, environment_ki
 use Rattle.language_ties.proofs.agree.PlainBounds.{no_class}
 use Rattle.language_ties.proofs.caught.CaughtBounds.{IsTakenBy, not_taken}
 use Rattle.language_ties.proofs.caught.ClausePlaces.{StandsInClause, body_kind}
-use Rattle.language_ties.proofs.headers.ChildChains.{ChainOf, outer_chain, inner_chain, OwnOf, own_of, chain_of}
 use Rattle.language_ties.proofs.headers.HeaderAnswers.{silent, answers_too, own_answers, caught_answers, caught_in_header, awaits}
 use Rattle.language_ties.proofs.headers.HeaderShape.{heads_parameters, tree_heads, header_list}
 use Rattle.language_ties.proofs.headers.Sides.{is_parameters}
@@ -68,12 +69,11 @@ use Rattle.language_ties.proofs.own_names.AnyBounds.{AnyBound, any_bound}
 use Rattle.language_ties.proofs.own_names.OwnBounds.{IsOfExpression, OwnBound, own_maker}
 use Rattle.language_ties.proofs.own_names.OwnSymbols.{HasSymbol, class_symbol}
 use Rattle.language_ties.proofs.symbols.OneSymbol.{each_at}
-use Rattle.language_ties.proofs.symbols.ScopeOpeners.{openers, IsOpened, AllOpened}
 use Rattle.language_ties.proofs.agree.ClauseBlocks.{body_agrees, round_child}
 use Rattle.language_ties.proofs.agree.PlaceAgreement.{outside_innermost, AllAre, Matches, Agrees, AgreesRound, AgreesBy, AgreesAt}
 use Rattle.language_ties.proofs.agree.ScopeAnswers as scopes
 use Rattle.language_ties.proofs.agree.SeenPlaces.{IsSeen, SeenAt, seen_program}
-use Rattle.language_ties.proofs.agree.ScopeAnswers.{arrow_rest, class_here, clause_block, directly, environment_is, function, further, here, is_here, is_there, no_if_body, none_there, one, own_rest, unanswered, unusual, visible}
+use Rattle.language_ties.proofs.agree.ScopeAnswers.{arrow_rest, class_here, directly, environment_is, function, further, here, is_here, is_there, no_if_body, none_there, one, own_rest, unanswered, unusual, visible}
 
 -- a list is not longer than itself
 cons_self : {A : Type 0} (x : A) (xs : List A) → x ∷ xs ≡ xs → ⊥
@@ -379,7 +379,7 @@ module _ (p : Tree) (h : first_fault p ≡ None) (e : is_ecmascript p ≡ true) 
 
         go : (chain : List OpenScope) → c.chain ≡ chain → ChainOf q.node.kind c.role q.node q.chain chain → Shows chain []
         go _ v (outer_chain i) = outer_shows
-        go _ v (inner_chain s i o j) = absurd (no_maker s v none_made)
+        go _ v (inner_chain s i o j _) = absurd (no_maker s v none_made)
 
     -- or one with a scope
     one_case : (k : AstType) (n : EnvironmentKind) → q.node.kind ≡ k → made_by k q.node c.node ≡ record { kind = n; maker = q.node.node_id } ∷ [] → ((m : ℕ) → has_scope (record { kind = n; maker = m }) ≡ true) → ((j : EnvironmentKind) → may_make k j ≡ true → j ≡ n) → IsOrdinary n → (is_in_header k c.role ≡ true → ⊥)
@@ -391,14 +391,14 @@ module _ (p : Tree) (h : first_fault p ≡ None) (e : is_ecmascript p ≡ true) 
 
         go : (chain : List OpenScope) → c.chain ≡ chain → ChainOf q.node.kind c.role q.node q.chain chain → Shows chain (record { kind = n; maker = q.node.node_id } ∷ [])
         go _ v (outer_chain i) = absurd (a_maker (record { kind = n; maker = q.node.node_id }) v one_made)
-        go _ v (inner_chain s i o j) = one_shows s o j v n (λ z y. only z (subst (λ a. may_make a z ≡ true) w y)) object (λ u. no_header (sym (ap (λ a. is_in_header a c.role) w) ∙ sym j ∙ u))
+        go _ v (inner_chain s i o j _) = one_shows s o j v n (λ z y. only z (subst (λ a. may_make a z ≡ true) w y)) object (λ u. no_header (sym (ap (λ a. is_in_header a c.role) w) ∙ sym j ∙ u))
 
     function_case : q.node.kind ≡ kind.Function → ChainOf q.node.kind c.role q.node q.chain c.chain → Shows c.chain (made_by kind.Function q.node c.node)
     function_case w t = go c.chain refl t
       where
         go : (chain : List OpenScope) → c.chain ≡ chain → ChainOf q.node.kind c.role q.node q.chain chain → Shows chain (made_by kind.Function q.node c.node)
         go _ v (outer_chain i) = absurd (never (subst (λ a. is_inside a c.role ≡ false) w i))
-        go _ v (inner_chain s i o j) =
+        go _ v (inner_chain s i o j _) =
             function_shows s o j v environment.Parameters (refl, refl, refl) (record { kind = environment.OwnName; maker = q.node.node_id } ∷ []) (subst (λ a. is_function_kind a ≡ true) (sym w) refl) refl
             (own_rest p h e numbered x not_arguments clear plain s (s_opened s o j v) (s_entry s o j v) q.node o seen.familiar.node (whole s o j v) w N E) (λ u none m. own_header s o j v w u none m)
 
@@ -407,7 +407,7 @@ module _ (p : Tree) (h : first_fault p ≡ None) (e : is_ecmascript p ≡ true) 
       where
         go : (chain : List OpenScope) → c.chain ≡ chain → ChainOf q.node.kind c.role q.node q.chain chain → Shows chain (made_by kind.ArrowFunctionExpression q.node c.node)
         go _ v (outer_chain i) = absurd (never (subst (λ a. is_inside a c.role ≡ false) w i))
-        go _ v (inner_chain s i o j) =
+        go _ v (inner_chain s i o j _) =
             function_shows s o j v environment.ArrowParameters (refl, refl, refl) [] (subst (λ a. is_function_kind a ≡ true) (sym w) refl) refl
             (arrow_rest p h e numbered x not_arguments clear plain s (s_opened s o j v) (s_entry s o j v) q.node o seen.familiar.node (whole s o j v) w N E) (λ u none m. arrow_header s o j v w u none m)
 
@@ -417,7 +417,7 @@ module _ (p : Tree) (h : first_fault p ≡ None) (e : is_ecmascript p ≡ true) 
       where
         outer : (chain : List OpenScope) → ChainOf q.node.kind c.role q.node q.chain chain → Shows chain (record { kind = environment.IfBody; maker = c.node.node_id } ∷ [])
         outer _ (outer_chain i) = λ j. subst (Matches p N) (sym (meaning_further bs x not_arguments (record { kind = environment.IfBody; maker = c.node.node_id }) E (unusual p h e numbered x not_arguments clear plain c.node.node_id))) (agree j.1)
-        outer _ (inner_chain s i o j) = absurd (never (sym (subst (λ a. is_inside a c.role ≡ true) w i)))
+        outer _ (inner_chain s i o j _) = absurd (never (sym (subst (λ a. is_inside a c.role ≡ true) w i)))
 
         by : (b : Bool) → (is kind.Function c.node && is_statement c.node) ≡ b → Shows c.chain (cond b (record { kind = environment.IfBody; maker = c.node.node_id } ∷ []) [])
         by true v = outer c.chain t
@@ -573,7 +573,7 @@ module _ (p : Tree) (h : first_fault p ≡ None) (e : is_ecmascript p ≡ true) 
 
       class_round : (chain : List OpenScope) → c.chain ≡ chain → ChainOf q.node.kind c.role q.node q.chain chain → Shows chain (Inside ∷ [])
       class_round _ v (outer_chain i) = absurd (never (sym (ap not seen_child.familiar.undecorated) ∙ subst (λ a. is_inside a c.role ≡ false) w i))
-      class_round _ v (inner_chain s i o j) = seen_by s o j v (Inside ∷ []) (λ last m. class_shows s o v m) (λ header fits m. absurd (never (sym header ∙ j ∙ ap (λ a. is_in_header a c.role) w)))
+      class_round _ v (inner_chain s i o j _) = seen_by s o j v (Inside ∷ []) (λ last m. class_shows s o v m) (λ header fits m. absurd (never (sym header ∙ j ∙ ap (λ a. is_in_header a c.role) w)))
 
     class_case : q.node.kind ≡ kind.Class → ChainOf q.node.kind c.role q.node q.chain c.chain → Shows c.chain (made_by kind.Class q.node c.node)
     class_case w t = by (is kind.Decorator c.node) refl
@@ -588,7 +588,7 @@ module _ (p : Tree) (h : first_fault p ≡ None) (e : is_ecmascript p ≡ true) 
       where
         go : (chain : List OpenScope) → c.chain ≡ chain → ChainOf q.node.kind c.role q.node q.chain chain → Shows chain (made_by kind.CatchClause q.node c.node)
         go _ v (outer_chain i) = absurd (never (subst (λ a. is_inside a c.role ≡ false) w i))
-        go _ v (inner_chain s i o j) =
+        go _ v (inner_chain s i o j _) =
             let clausal : StandsInClause (node_at p) c s = subst (λ l. StandsInClause (node_at p) c (place.innermost l)) v seen_child.clausal.stands in
             elim (clausal q.node (ap (node_at p) o ∙ seen.familiar.node) w) [
               | inl header ↦ seen_by s o j v (record { kind = environment.Catch; maker = q.node.node_id } ∷ []) (λ last m. absurd (never (sym header ∙ last))) (λ u fits m. clause_header s o j v u w m)
@@ -631,7 +631,7 @@ module _ (p : Tree) (h : first_fault p ≡ None) (e : is_ecmascript p ≡ true) 
 
         go : (chain : List OpenScope) → c.chain ≡ chain → ChainOf q.node.kind c.role q.node q.chain chain → c.chain ≡ (seen_child.clausal.body body).clause ∷ q.chain
         go _ v (outer_chain i) = absurd (never (subst (λ a. is_inside a c.role ≡ false) (kind_is q.node.kind kind.CatchClause (under_clause body)) i))
-        go _ v (inner_chain s i o j) = v ∙ ap (λ z. z ∷ q.chain) (heads_are s (seen_child.clausal.body body).clause q.chain (seen_child.clausal.body body).round (sym v ∙ (seen_child.clausal.body body).chain))
+        go _ v (inner_chain s i o j _) = v ∙ ap (λ z. z ∷ q.chain) (heads_are s (seen_child.clausal.body body).clause q.chain (seen_child.clausal.body body).round (sym v ∙ (seen_child.clausal.body body).chain))
 
     child_agrees : AgreesBy p x (is_catch_body q) q → AgreesBy p x (is_catch_body c) c
     child_agrees agree = by (is_catch_body q) refl agree
@@ -666,7 +666,7 @@ module _ (p : Tree) (h : first_fault p ≡ None) (e : is_ecmascript p ≡ true) 
       let more : (holds_below heads_parameters k2 below && holds_below heads_parameters q.node.kind after) ≡ true = and_second (heads_parameters q.node.kind r k2 text) (holds_below heads_parameters k2 below && holds_below heads_parameters q.node.kind after) heads in
       let no_identifier : is kind.BindingIdentifier q.node ≡ false = not-true (same_kind q.node.kind kind.BindingIdentifier) (and_first (not (same_kind q.node.kind kind.BindingIdentifier)) _ well) in
       let o_scope : OwnOf q turn.scope = own_of q r own n o in
-      let chain : ChainOf q.node.kind r q.node q.chain turn.child.chain = chain_of q r turn.scope cursor node child_seen.familiar.undecorated (is_open_inside q r own n) o_scope in
+      let chain : ChainOf q.node.kind r q.node q.chain turn.child.chain = chain_of q r turn.scope cursor node (no_decorator q.node.kind r child_seen.familiar.undecorated) (is_open_inside q r own n) o_scope in
       let child : is kind.BindingIdentifier node ≡ false → AgreesBy p x (is_catch_body turn.child) turn.child = λ i. child_agrees q turn.child seen child_seen refl well head i chain (agree no_identifier) in
       each_of_turn (AgreesAt p x) turn (record {
         before = opening_case (EachStep (AgreesAt p x)) q r own n tt (tt, tt);

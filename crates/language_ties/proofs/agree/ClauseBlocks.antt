@@ -17,6 +17,8 @@ use Rattle.semantic_model.specs.Tie.{view, view_by}
 use Rattle.semantic_model.proofs.fold.BodyChains.{AllInTable}
 use Rattle.semantic_model.proofs.fold.Orders.{table_of}
 use Rattle.semantic_model.proofs.form.Clauses.{kind_is}
+use Rattle.binding_laws.proofs.ChildChains.{ChainOf, outer_chain, inner_chain}
+use Rattle.binding_laws.proofs.ScopeOpeners.{openers, IsOpened, AllOpened}
 use Rattle.language_ties.specs.AgreeingNames.{IsPlainName, StandsInExpressions}
 use Rattle.language_ties.specs.Bound.{Bound}
 use Rattle.language_ties.specs.EcmaScript.{is_ecmascript}
@@ -30,10 +32,8 @@ use Rattle.language_ties.proofs.agree.KnownNodes.{node_at}
 use Rattle.language_ties.proofs.caught.BodyPlaces.{block_takes}
 use Rattle.language_ties.proofs.caught.CaughtBounds.{of_clause, taken_into}
 use Rattle.language_ties.proofs.caught.ClausePlaces.{IsClauseBody, body_kind}
-use Rattle.language_ties.proofs.headers.ChildChains.{ChainOf, outer_chain, inner_chain}
 use Rattle.language_ties.proofs.moved.Settled.{settled_bounds, bound_as_settled}
 use Rattle.language_ties.proofs.shared.HomesShared.{none_in_clause}
-use Rattle.language_ties.proofs.symbols.ScopeOpeners.{openers, IsOpened, AllOpened}
 use Rattle.language_ties.proofs.agree.ScopeAnswers.{clause_block}
 use Rattle.language_ties.proofs.agree.PlaceAgreement.{outside_innermost, Matches, Agrees, AgreesRound}
 use Rattle.language_ties.proofs.agree.SeenPlaces.{IsSeen}
@@ -123,7 +123,7 @@ module _ (p : Tree) (h : first_fault p ≡ None) (e : is_ecmascript p ≡ true) 
       where
         go : (chain : List OpenScope) → c.chain ≡ chain → ChainOf q.node.kind c.role q.node q.chain chain → Agrees p x c
         go _ v (outer_chain i) = absurd (never (subst (λ a. is_inside a c.role ≡ false) block i))
-        go _ v (inner_chain s i o j) = block_agrees s o j v
+        go _ v (inner_chain s i o j _) = block_agrees s o j v
 
   -- the body of a clause stands round which the clause does
   pub round_child : (q c : Place) → Agrees p x q → (body : IsClauseBody c) → c.path ≡ q.node ∷ q.path → c.chain ≡ body.clause ∷ q.chain → is kind.CatchClause q.node ≡ true → AgreesRound p x c

@@ -17,6 +17,7 @@ use Rattle.semantic_model.specs.Hoist.{run}
 use Rattle.semantic_model.specs.Place.{Place, OpenScope}
 use Rattle.semantic_model.specs.Step.{entering, steps}
 use Rattle.semantic_model.proofs.fold.Orders.{table_of}
+use Rattle.binding_laws.proofs.ScopeOpeners.{openers, IsOpened}
 use Rattle.language_ties.specs.AgreeingNames.{IsPlainName}
 use Rattle.language_ties.specs.Bound.{Bound, is_bound_as}
 use Rattle.language_ties.specs.EcmaScript.{is_ecmascript}
@@ -41,7 +42,6 @@ use Rattle.language_ties.proofs.own_names.AnyBounds.{AnyBound, any_bound, IsMade
 use Rattle.language_ties.proofs.own_names.OwnBounds.{own_maker}
 use Rattle.language_ties.proofs.own_names.OwnSymbols.{HasSymbol, function_symbol}
 use Rattle.language_ties.proofs.symbols.OneSymbol.{each_at}
-use Rattle.language_ties.proofs.symbols.ScopeOpeners.{openers, IsOpened}
 
 never : true ≡ false → ⊥
 never h = absurd cc

@@ -9,12 +9,12 @@ use Rattle.semantic_model.specs.Step.{Step, entering, opening, header_ending, cl
 use Rattle.semantic_model.proofs.fold.BodyChains.{AllInTable, IsStepIn}
 use Rattle.semantic_model.proofs.fold.Orders.{table_of, steps_in}
 use Rattle.semantic_model.proofs.form.Shape.{has_form}
+use Rattle.binding_laws.proofs.ScopeOpeners.{openers, AllOpened, IsPlaceOpened, places_opened}
 use Rattle.language_ties.specs.EcmaScript.{is_ecmascript}
 use Rattle.language_ties.proofs.EnvironmentsRound.{IsKnown, KnownAt, known_program}
 use Rattle.language_ties.proofs.agree.FamiliarPlaces.{IsFamiliar, FamiliarAt, familiar_program}
 use Rattle.language_ties.proofs.agree.KnownNodes.{node_at}
 use Rattle.language_ties.proofs.caught.ClausePlaces.{IsClausal, ClausalAt, clausal_program}
-use Rattle.language_ties.proofs.symbols.ScopeOpeners.{openers, AllOpened, IsPlaceOpened, places_opened}
 
 module _ (p : Tree) where
   -- what is known of a place

@@ -17,17 +17,17 @@ use Rattle.semantic_model.specs.ScopeKind.{opened_scope}
 use Rattle.semantic_model.specs.Step.{Step, entering, opening, header_ending, closing, leaving, steps_below, steps, root_place}
 use Rattle.semantic_model.proofs.alone.BodyFollows.{taken_in, AllFollowed}
 use Rattle.semantic_model.proofs.alone.PlacesFollowed.{followed_program}
-use Rattle.semantic_model.proofs.fold.BodyChains.{AllInTable, IsStepIn}
+use Rattle.semantic_model.proofs.fold.BodyChains.{IsStepIn}
 use Rattle.semantic_model.proofs.fold.Orders.{HasForm, table_of, steps_in}
 use Rattle.semantic_model.proofs.form.Shape.{has_form}
 use Rattle.semantic_model.proofs.lists.Members.{among_left, among_right}
 use Rattle.semantic_model.proofs.steps.EachStep.{each_of_node, each_of_turn}
 use Rattle.semantic_model.proofs.steps.Turn.{Turn, turn_at}
 use Rattle.semantic_model.proofs.steps.TurnCases.{opening_case, ending_case, last_case}
+use Rattle.binding_laws.proofs.ScopeOpeners.{openers, IsOpened, one_scope}
 use Rattle.language_ties.proofs.own_names.OpenedNodes.{Opens, scope_opens, scope_stands}
 use Rattle.language_ties.proofs.caught.ClausePlaces.{IsClauseBody, body_kind}
 use Rattle.language_ties.proofs.symbols.OneSymbol.{each_at}
-use Rattle.language_ties.proofs.symbols.ScopeOpeners.{openers, IsOpened, one_scope}
 
 some_is : {A : Type 0} (x y : A) → Some x ≡ Some y → x ≡ y
 some_is x y h = cc

@@ -38,10 +38,10 @@ use Rattle.semantic_model.proofs.steps.TurnCases.{opening_case, ending_case, las
 use Rattle.walk_model.proofs.headers.Headed.{bound_inside}
 use Rattle.walk_model.proofs.headers.NoStatements.{is_loose, is_statement_text, is_closed, is_bound, asks_closed, closed_by_table, closed_by_place, table_closes, place_closes, child_closed}
 use Rattle.walk_model.proofs.places.Shapes.{holds_below, tree_holds, only_is}
+use Rattle.binding_laws.proofs.ChildChains.{ChainOf, outer_chain, inner_chain, OwnOf, own_of, no_decorator, chain_of}
 use Rattle.language_ties.specs.EcmaScript.{is_ecmascript}
 use Rattle.language_ties.proofs.agree.FamiliarPlaces.{IsFamiliar, FamiliarAt, familiar_program}
 use Rattle.language_ties.proofs.agree.KnownNodes.{node_at}
-use Rattle.language_ties.proofs.headers.ChildChains.{ChainOf, outer_chain, inner_chain, OwnOf, own_of, chain_of}
 
 never : true ≡ false → ⊥
 never h = absurd cc
@@ -237,7 +237,7 @@ module _ (g : ℕ → Option Node) where
 
     child_calm : (chain : List OpenScope) → ChainOf q.node.kind c.role q.node q.chain chain → IsCalmHere c (innermost chain)
     child_calm _ (outer_chain i) = λ y f w v. inner_calm (before.calm y f w v) i
-    child_calm _ (inner_chain s i o j) = λ y f w v.
+    child_calm _ (inner_chain s i o j _) = λ y f w v.
         let clause : q.node.kind ≡ kind.CatchClause = ap (λ z. z.kind) (sym (some_is y q.node (sym f ∙ ap g o ∙ found))) ∙ w in
         let both : (same_kind q.node.kind kind.CatchClause && is_in_header q.node.kind c.role) ≡ true = and_from (same_kind q.node.kind kind.CatchClause) (is_in_header q.node.kind c.role) (ap (λ k. same_kind k kind.CatchClause) clause) (sym j ∙ v) in
         parameter_calm (kind_is c.node.kind kind.CatchParameter (subst (λ t. (not t || same_kind c.node.kind kind.CatchParameter) ≡ true) both (and_second (not (is_import_name c.node.kind) || same_kind q.node.kind kind.ImportDeclaration) (not (same_kind q.node.kind kind.CatchClause && is_in_header q.node.kind c.role) || same_kind c.node.kind kind.CatchParameter) more)))
@@ -264,7 +264,7 @@ module _ (g : ℕ → Option Node) where
       let tables : (holds_below closed_by_table k2 below && holds_below closed_by_table q.node.kind after) ≡ true = and_second (closed_by_table q.node.kind r k2 text) (holds_below closed_by_table k2 below && holds_below closed_by_table q.node.kind after) b in
       let places : (holds_below closed_by_place k2 below && holds_below closed_by_place q.node.kind after) ≡ true = and_second (closed_by_place q.node.kind r k2 text) (holds_below closed_by_place k2 below && holds_below closed_by_place q.node.kind after) d in
       let o_scope : OwnOf q turn.scope = own_of q r own n o in
-      let chain : ChainOf q.node.kind r q.node q.chain turn.child.chain = chain_of q r turn.scope cursor node child_familiar.undecorated (is_open_inside q r own n) o_scope in
+      let chain : ChainOf q.node.kind r q.node q.chain turn.child.chain = chain_of q r turn.scope cursor node (no_decorator q.node.kind r child_familiar.undecorated) (is_open_inside q r own n) o_scope in
       let child : IsQuietPlace turn.child = record {
         calm = child_calm q turn.child k familiar.node (and_first (is_quiet q.node.kind r k2 text) (holds_below is_quiet k2 below && holds_below is_quiet q.node.kind after) a) (and_first (closed_by_table q.node.kind r k2 text) (holds_below closed_by_table k2 below && holds_below closed_by_table q.node.kind after) b)
             (and_first (closed_by_place q.node.kind r k2 text) (holds_below closed_by_place k2 below && holds_below closed_by_place q.node.kind after) d) turn.child.chain chain;

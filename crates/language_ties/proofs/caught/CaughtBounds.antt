@@ -1,5 +1,5 @@
 -- A declaration whose scope is taken over is of a catch clause, and the scope that takes it over is that of the clause's block.
-use Rattle.std.proofs.Common.{◌≡◌, ℕ, List, [], ◌∷◌, Option, Some, None, true, false, ◌&&◌, inl, inr, ◌⊎◌, refl, sym, ap, subst, ◌∙◌}
+use Rattle.std.proofs.Common.{◌≡◌, ℕ, List, ◌∷◌, Option, Some, None, true, false, ◌&&◌, inl, inr, ◌⊎◌, refl, sym, ap, subst, ◌∙◌}
 use Rattle.std.specs.Prelude.{slice_get}
 use Rattle.semantic_kinds.specs.Kinds.{same_kind}
 use Rattle.semantic_kinds.specs.Roles.{same_role}
@@ -18,17 +18,17 @@ use Rattle.semantic_model.specs.Step.{entering, steps}
 use Rattle.semantic_model.proofs.fold.BodyChains.{InTable, AllInTable, IsStepIn}
 use Rattle.semantic_model.proofs.fold.Orders.{table_of, steps_in}
 use Rattle.semantic_model.proofs.form.Shape.{has_form}
+use Rattle.binding_laws.proofs.EnteredOnce.{entered_once}
+use Rattle.binding_laws.proofs.ScopeOpeners.{openers, IsOpened, AllOpened, IsPlaceOpened, places_opened, one_scope}
 use Rattle.language_ties.specs.AgreeingNames.{IsPlainName}
 use Rattle.language_ties.specs.Bound.{Bound}
 use Rattle.language_ties.specs.EcmaScript.{is_ecmascript}
-use Rattle.language_ties.proofs.agree.EnteredOnce.{entered_once}
 use Rattle.language_ties.proofs.agree.KnownBounds.{KnownBound}
 use Rattle.language_ties.proofs.agree.KnownNodes.{node_at}
 use Rattle.language_ties.proofs.caught.BodyPlaces.{IsBodyPlace, body_place, block_takes}
-use Rattle.language_ties.proofs.caught.ClausePlaces.{IsClauseBody, IsClausal, ClausalAt, clausal_program}
+use Rattle.language_ties.proofs.caught.ClausePlaces.{IsClauseBody, ClausalAt, clausal_program}
 use Rattle.language_ties.proofs.own_names.AnyBounds.{AnyBound, IsDeclared, is_declared, declared_known, declared_own}
 use Rattle.language_ties.proofs.symbols.OneSymbol.{each_at}
-use Rattle.language_ties.proofs.symbols.ScopeOpeners.{openers, IsOpened, AllOpened, IsPlaceOpened, places_opened, one_scope}
 
 some_is : {A : Type 0} (x y : A) → Some x ≡ Some y → x ≡ y
 some_is x y h = cc

@@ -1,10 +1,9 @@
 -- Where a plain catch name has a name, no other identifier binds it by the clause.
-use Rattle.std.proofs.Common.{◌≡◌, ℕ, ◌≤◌, List, [], ◌∷◌, ◌++◌, Option, Some, None, Bool, true, false, ◌&&◌, ◌||◌, not, cond, map, flat_map, if◌then◌else◌, inl, inr, refl, sym, ap, subst, ◌∙◌, codes, length, take, drop, arith}
+use Rattle.std.proofs.Common.{◌≡◌, ℕ, ◌≤◌, List, [], ◌∷◌, ◌++◌, Some, None, Bool, true, false, ◌&&◌, ◌||◌, not, cond, map, if◌then◌else◌, inl, inr, refl, sym, ap, subst, ◌∙◌, codes, length, take, drop, arith}
 use Rattle.std.specs.Prelude.{nat_le}
 use Rattle.std.proofs.lemmas.Bool.{cases_Bool}
 use Rattle.std.proofs.lemmas.List.{take-append-drop}
 use Rattle.semantic_syntax.proofs.Truth.{and_first, and_second}
-use Rattle.semantic_kinds.specs.Classes.{holds_kind}
 use Rattle.semantic_kinds.specs.Kinds.{same_kind}
 use Rattle.semantic_kinds.specs.Parts.{parts}
 use Rattle.semantic_kinds.specs.Roles.{same_role}
@@ -14,7 +13,6 @@ use Rattle.semantic_kinds.specs.declared.kind.AstType.TheVariants as kind
 use Rattle.semantic_kinds.specs.declared.role.Role.{Role}
 use Rattle.semantic_kinds.specs.declared.role.Role.TheVariants as role
 use Rattle.semantic_syntax.specs.Tables.{Name}
-use Rattle.semantic_syntax.specs.declared.source_type.SourceType.{SourceType}
 use Rattle.semantic_tree.specs.Faults.{first_fault}
 use Rattle.semantic_tree.specs.Fit.{all_of, fit, lead}
 use Rattle.semantic_tree.specs.Nodes.{nodes_in, trees}
@@ -24,26 +22,24 @@ use Rattle.semantic_tree.specs.declared.node.Node.{Node}
 use Rattle.semantic_model.specs.Binder.{is_statement}
 use Rattle.semantic_model.specs.Entries.{Among}
 use Rattle.semantic_model.specs.Event.{is_catch_body}
-use Rattle.semantic_model.specs.Inside.{is_in_header}
 use Rattle.semantic_model.specs.Names.{bound_names, bound_below, names_at}
 use Rattle.semantic_model.specs.Place as place
 use Rattle.semantic_model.specs.Place.{Place, OpenScope}
 use Rattle.semantic_model.specs.Step.{entering, steps}
-use Rattle.semantic_model.proofs.form.Clauses.{kind_is, role_is}
+use Rattle.semantic_model.proofs.form.Clauses.{role_is}
 use Rattle.semantic_model.proofs.form.ParameterShape.{is_parameter}
 use Rattle.walk_model.proofs.headers.NoStatements.{is_loose, is_statement_text}
 use Rattle.walk_model.proofs.once.NamesInRole.{AtMostOne, one_pattern}
 use Rattle.program_laws.proofs.DeclaredNodes.{among_map, among_flat}
-use Rattle.tangle_model.specs.Surroundings.{in_with_under}
+use Rattle.binding_laws.proofs.EnteredOnce.{entered_once}
 use Rattle.language_ties.specs.Bound.{Bound, bound_identifier, bound_here, bound_outward, bound_by_declarator, bound_by_declaration, bound_by_function, bound_by_class, bound_by_catch, bound_by_node, is_block_function, is_bound_as, written}
 use Rattle.language_ties.specs.EcmaScript.{is_ecmascript}
 use Rattle.language_ties.specs.Environments.{Environment, made_by, environments, innermost, passed, takes_variables, variable_environment}
-use Rattle.language_ties.specs.Scopes.{Maker, maker_of_scope, maker_of_environment, makers}
+use Rattle.language_ties.specs.Scopes.{Maker, maker_of_scope, makers}
 use Rattle.language_ties.specs.declared.bound_as.BoundAs.TheVariants as bound
 use Rattle.language_ties.specs.declared.environment_kind.EnvironmentKind.{EnvironmentKind}
 use Rattle.language_ties.specs.declared.environment_kind.EnvironmentKind.TheVariants as environment
 use Rattle.language_ties.proofs.EnvironmentsRound.{IsKnown, KnownAt, known_program}
-use Rattle.language_ties.proofs.agree.EnteredOnce.{entered_once}
 use Rattle.language_ties.proofs.agree.FamiliarPlaces.{IsFamiliar, FamiliarAt, familiar_program, known_among}
 use Rattle.language_ties.proofs.agree.KnownNodes.{node_at}
 use Rattle.language_ties.proofs.agree.MadeEnvironments.{environment_kind_is, may_make, IsMadeBy, made_in, EndsAtProgram, innermost_among, variable_among}

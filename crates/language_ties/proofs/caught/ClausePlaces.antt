@@ -33,10 +33,10 @@ use Rattle.semantic_model.proofs.steps.Turn.{Turn, turn_at}
 use Rattle.semantic_model.proofs.steps.TurnCases.{opening_case, ending_case, last_case}
 use Rattle.walk_model.proofs.places.Shapes.{holds_below, tree_holds, only_is}
 use Rattle.walk_model.proofs.once.NodeIds.{root_numbered}
+use Rattle.binding_laws.proofs.ChildChains.{ChainOf, outer_chain, inner_chain, OwnOf, own_of, no_decorator, chain_of}
 use Rattle.language_ties.specs.EcmaScript.{is_ecmascript}
 use Rattle.language_ties.proofs.agree.FamiliarPlaces.{IsFamiliar, FamiliarAt, familiar_program}
 use Rattle.language_ties.proofs.agree.KnownNodes.{node_at}
-use Rattle.language_ties.proofs.headers.ChildChains.{ChainOf, outer_chain, inner_chain, OwnOf, own_of, chain_of}
 
 never : true ≡ false → ⊥
 never h = absurd cc
@@ -159,7 +159,7 @@ module _ (g : ℕ → Option Node) where
 
     child_stands : (chain : List OpenScope) → ChainOf q.node.kind c.role q.node q.chain chain → StandsInClause c (innermost chain)
     child_stands _ (outer_chain i) = outer_stands i
-    child_stands _ (inner_chain s i o j) = inner_stands s o j
+    child_stands _ (inner_chain s i o j _) = inner_stands s o j
 
     body_role : is_catch_body c ≡ true → same_role c.role role.Body ≡ true
     body_role w = and_second (is kind.BlockStatement c.node) (same_role c.role role.Body) (and_first (is kind.BlockStatement c.node && same_role c.role role.Body) _ w)
@@ -171,7 +171,7 @@ module _ (g : ℕ → Option Node) where
 
     child_body : (chain : List OpenScope) → c.chain ≡ chain → ChainOf q.node.kind c.role q.node q.chain chain → is_catch_body c ≡ true → IsClauseBody c
     child_body _ v (outer_chain i) w = absurd (never (subst (λ a. is_inside a c.role ≡ false) (kind_is q.node.kind kind.CatchClause (under_clause w)) i))
-    child_body _ v (inner_chain s i o j) w = record {
+    child_body _ v (inner_chain s i o j _) w = record {
       clause = s;
       round = q.chain;
       chain = v;
@@ -214,7 +214,7 @@ module _ (g : ℕ → Option Node) where
       let more : (holds_below stands_in_clause k2 below && holds_below stands_in_clause q.node.kind after) ≡ true = and_second (stands_in_clause q.node.kind r k2 text) (holds_below stands_in_clause k2 below && holds_below stands_in_clause q.node.kind after) w in
       let well : stands_in_clause q.node.kind r k2 [] ≡ true = and_first (stands_in_clause q.node.kind r k2 text) (holds_below stands_in_clause k2 below && holds_below stands_in_clause q.node.kind after) w in
       let o_scope : OwnOf q turn.scope = own_of q r own n o in
-      let chain : ChainOf q.node.kind r q.node q.chain turn.child.chain = chain_of q r turn.scope cursor node child_familiar.undecorated (is_open_inside q r own n) o_scope in
+      let chain : ChainOf q.node.kind r q.node q.chain turn.child.chain = chain_of q r turn.scope cursor node (no_decorator q.node.kind r child_familiar.undecorated) (is_open_inside q r own n) o_scope in
       let child : IsClausal turn.child = clausal_child q turn.child k familiar.node refl well chain in
       each_of_turn ClausalAt turn (record {
         before = opening_case (EachStep ClausalAt) q r own n tt (tt, tt);

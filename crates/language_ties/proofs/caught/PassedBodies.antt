@@ -1,5 +1,5 @@
 -- A `var` that passes the body of a clause passes the clause.
-use Rattle.std.proofs.Common.{◌≡◌, ℕ, ◌==◌, List, [], ◌∷◌, Option, Some, None, Bool, true, false, ◌&&◌, ◌||◌, cond, inl, inr, refl, sym, ap, subst, ◌∙◌}
+use Rattle.std.proofs.Common.{◌≡◌, ℕ, List, [], ◌∷◌, Option, Some, None, Bool, true, false, cond, inl, inr, refl, sym, ap, subst, ◌∙◌}
 use Rattle.std.specs.Prelude.{slice_get}
 use Rattle.std.proofs.lemmas.Bool.Decides.{eqb_tells}
 use Rattle.semantic_syntax.specs.Members.{contains}
@@ -23,18 +23,18 @@ use Rattle.semantic_model.proofs.form.Shape.{has_form}
 use Rattle.semantic_model.proofs.steps.EachStep.{EachOfTurn, each_left, each_of_node, each_of_turn, turn_of_each}
 use Rattle.semantic_model.proofs.steps.Turn.{Turn, turn_at}
 use Rattle.semantic_model.proofs.steps.TurnCases.{opening_case, ending_case, last_case}
+use Rattle.binding_laws.proofs.ChildChains.{ChainOf, outer_chain, inner_chain, OwnOf, own_of, no_decorator, chain_of}
+use Rattle.binding_laws.proofs.EnteredOnce.{entered_once}
+use Rattle.binding_laws.proofs.ScopeOpeners.{openers, IsOpened, AllOpened, IsPlaceOpened, places_opened, one_scope}
 use Rattle.language_ties.specs.AgreeingNames.{IsPlainName}
 use Rattle.language_ties.specs.Bound.{Bound}
 use Rattle.language_ties.specs.EcmaScript.{is_ecmascript}
-use Rattle.language_ties.proofs.agree.EnteredOnce.{entered_once}
 use Rattle.language_ties.proofs.agree.FamiliarPlaces.{IsFamiliar, FamiliarAt, familiar_program}
 use Rattle.language_ties.proofs.agree.KnownBounds.{KnownBound}
 use Rattle.language_ties.proofs.agree.KnownNodes.{node_at}
 use Rattle.language_ties.proofs.caught.CaughtBounds.{IsTakenBy, taken_by}
-use Rattle.language_ties.proofs.headers.ChildChains.{ChainOf, outer_chain, inner_chain, OwnOf, own_of, chain_of}
 use Rattle.language_ties.proofs.own_names.AnyBounds.{declared_known}
 use Rattle.language_ties.proofs.symbols.OneSymbol.{each_at}
-use Rattle.language_ties.proofs.symbols.ScopeOpeners.{openers, IsOpened, AllOpened, IsPlaceOpened, places_opened, one_scope}
 
 some_is : {A : Type 0} (x y : A) → Some x ≡ Some y → x ≡ y
 some_is x y h = cc
@@ -70,7 +70,7 @@ module _ (p : Tree) (numbered : IsNumbered p.root) (n : ℕ) (body : Place) (ent
 
   child_followed : (k : _) (r : _) (q : Place) (chain : List OpenScope) → Among (entering q) (steps p) → AllOpened (openers (steps p)) chain → BodyFollowed q.chain → ChainOf k r q.node q.chain chain → BodyFollowed chain
   child_followed k r q _ a w f (outer_chain i) = f
-  child_followed k r q _ a w f (inner_chain s i o j) = (
+  child_followed k r q _ a w f (inner_chain s i o j _) = (
     λ number. (let node : q.node.node_id ≡ body.node.node_id = some_is q.node.node_id body.node.node_id (ap Some (sym o) ∙ sym w.0 ∙ ap (slice_get (openers (steps p))) number ∙ opens_it) in
         ap (λ (z : Place). z.chain) (entered_once p numbered q body a entered_body node)),
     f,
@@ -84,7 +84,7 @@ module _ (p : Tree) (numbered : IsNumbered p.root) (n : ℕ) (body : Place) (ent
       let sees : EachOfTurn OpenAt turn = turn_of_each OpenAt turn h in
       let one : IsOpenPlace turn.child = sees.whole.0 in
       let o_scope : OwnOf q turn.scope = own_of q r own i o in
-      let chain : ChainOf q.node.kind r q.node q.chain turn.child.chain = chain_of q r turn.scope cursor node one.familiar.undecorated (is_open_inside q r own i) o_scope in
+      let chain : ChainOf q.node.kind r q.node q.chain turn.child.chain = chain_of q r turn.scope cursor node (no_decorator q.node.kind r one.familiar.undecorated) (is_open_inside q r own i) o_scope in
       let child : BodyFollowed turn.child.chain = child_followed q.node.kind r q turn.child.chain a one.opened b chain in
       each_of_turn FollowedAt turn (record {
         before = opening_case (EachStep FollowedAt) q r own i tt (tt, tt);

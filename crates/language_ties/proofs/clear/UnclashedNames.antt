@@ -20,6 +20,7 @@ use Rattle.semantic_model.specs.Step.{entering, steps}
 use Rattle.semantic_model.proofs.lists.Members.{among_left}
 use Rattle.semantic_model.proofs.once.ListedUnder.{name_tells}
 use Rattle.walk_model.proofs.headers.NoStatements.{is_loose}
+use Rattle.binding_laws.proofs.ScopeOpeners.{openers, IsOpened, AllOpened, IsPlaceOpened, places_opened}
 use Rattle.language_ties.specs.AgreeingNames.{is_declared_plainly, IsPlainName}
 use Rattle.language_ties.specs.Bound.{Bound, bound_by_node, is_bound_as, written}
 use Rattle.language_ties.specs.contracts.bound_as.BoundAs.{the_type as the_ways}
@@ -55,7 +56,6 @@ use Rattle.language_ties.proofs.own_names.AnyBounds.{AnyBound, any_bound, IsDecl
 use Rattle.language_ties.proofs.own_names.OwnBounds.{IsOfExpression, OwnBound}
 use Rattle.language_ties.proofs.own_names.PassedClasses.{HoldsLoose, LooseAt, loose_program, passes_no_class}
 use Rattle.language_ties.proofs.symbols.OneSymbol.{of_map, each_at, declared_at, DeclarationOf, StaysThere}
-use Rattle.language_ties.proofs.symbols.ScopeOpeners.{openers, IsOpened, AllOpened, IsPlaceOpened, places_opened}
 
 never : true ≡ false → ⊥
 never h = absurd cc

@@ -40,6 +40,7 @@ use Rattle.binding_laws.proofs.CutEvents.{IsBefore, Cut, no_end, ended, not_yet}
 use Rattle.binding_laws.proofs.CutSteps.{WillAwait, cut_program}
 use Rattle.binding_laws.proofs.HeaderFold.{IsCutAt, cut_at, header_start}
 use Rattle.binding_laws.proofs.Matched.{IsMatchedStep, AreMatched, program_matched}
+use Rattle.binding_laws.proofs.ScopeOpeners.{openers, IsOpened, one_scope}
 use Rattle.binding_laws.proofs.SymbolsAtNodes.{symbols_are_at_nodes}
 use Rattle.language_ties.specs.AgreeingNames.{IsPlainName}
 use Rattle.language_ties.specs.Bound.{Bound, bound_by_node, is_bound_as}
@@ -68,7 +69,6 @@ use Rattle.language_ties.proofs.shared.HomesShared.{share_symbols, is_made, unti
 use Rattle.language_ties.proofs.shared.Runs.{SharedAtLast}
 use Rattle.language_ties.proofs.shared.Shared.{IsNowIn, IsBoundNow, BoundBy}
 use Rattle.language_ties.proofs.symbols.OneSymbol.{each_at, StaysThere, share_symbol}
-use Rattle.language_ties.proofs.symbols.ScopeOpeners.{openers, IsOpened, one_scope}
 
 never : true ≡ false → ⊥
 never h = absurd cc

@@ -24,6 +24,7 @@ use Rattle.semantic_model.proofs.steps.EachStep.{EachOfTurn, each_left, each_of_
 use Rattle.semantic_model.proofs.steps.Turn.{Turn, turn_at}
 use Rattle.semantic_model.proofs.steps.TurnCases.{opening_case, ending_case, last_case}
 use Rattle.walk_model.proofs.places.Shapes.{holds_below}
+use Rattle.binding_laws.proofs.ChildChains.{ChainOf, outer_chain, inner_chain, OwnOf, own_of, no_decorator, chain_of}
 use Rattle.language_ties.specs.EcmaScript.{is_ecmascript}
 use Rattle.language_ties.specs.Environments.{Environment, is_made_for, is_outside_body, has_parameter_expressions, is_body_of_with, made_by, environments, innermost, takes_variables, first_taking}
 use Rattle.language_ties.specs.Scopes.{Maker, maker_of_scope, maker_of_environment, has_scope, makers}
@@ -32,7 +33,6 @@ use Rattle.language_ties.specs.declared.environment_kind.EnvironmentKind.TheVari
 use Rattle.language_ties.proofs.EnvironmentsRound.{IsKnown, KnownAt, known_program}
 use Rattle.language_ties.proofs.agree.FamiliarPlaces.{stands_well, is_function_kind, IsFamiliar, FamiliarAt, familiar_program}
 use Rattle.language_ties.proofs.agree.KnownNodes.{node_at}
-use Rattle.language_ties.proofs.headers.ChildChains.{ChainOf, outer_chain, inner_chain, OwnOf, own_of, chain_of}
 use Rattle.language_ties.proofs.headers.HeaderShape.{heads_parameters, tree_heads, header_list}
 
 never : true ≡ false → ⊥
@@ -115,7 +115,7 @@ module _ (g : ℕ → Option Node) where
       where
         go : (chain : List OpenScope) → c.chain ≡ chain → ChainOf q.node.kind c.role q.node q.chain chain → Sides g chain E
         go _ v (outer_chain i) = before
-        go _ v (inner_chain s i o j) = absurd (cons_self (maker_of_scope s) (makers E) (ap (λ ms. maker_of_scope s ∷ ms) (sym outer_round) ∙ ap (map maker_of_scope) (sym v) ∙ m))
+        go _ v (inner_chain s i o j _) = absurd (cons_self (maker_of_scope s) (makers E) (ap (λ ms. maker_of_scope s ∷ ms) (sym outer_round) ∙ ap (map maker_of_scope) (sym v) ∙ m))
 
     -- or one with a scope, of no function
     one_case : (d : Environment) → is_made_for environment.Body d ≡ false → is_parameters d ≡ false → map maker_of_scope c.chain ≡ maker_of_environment d ∷ makers E → ChainOf q.node.kind c.role q.node q.chain c.chain → Sides g c.chain (d ∷ E)
@@ -123,7 +123,7 @@ module _ (g : ℕ → Option Node) where
       where
         go : (chain : List OpenScope) → c.chain ≡ chain → ChainOf q.node.kind c.role q.node q.chain chain → Sides g chain (d ∷ E)
         go _ v (outer_chain i) = absurd (cons_self (maker_of_environment d) (makers E) (sym m ∙ ap (map maker_of_scope) v ∙ outer_round))
-        go _ v (inner_chain s i o j) =
+        go _ v (inner_chain s i o j _) =
             let same : maker_of_scope s ≡ maker_of_environment d = first_maker_is (maker_of_scope s) (maker_of_environment d) (map maker_of_scope q.chain) (makers E) (ap (map maker_of_scope) (sym v) ∙ m) in
             one_sides s d q.chain E b p (ap (λ z. z.takes_variables) same) before
 
@@ -199,7 +199,7 @@ module _ (g : ℕ → Option Node) where
       where
         go : (chain : List OpenScope) → c.chain ≡ chain → ChainOf q.node.kind c.role q.node q.chain chain → Sides g chain (made_by kind.Function q.node c.node ++ E)
         go _ v (outer_chain i) = absurd (never (subst (λ a. is_inside a c.role ≡ false) w i))
-        go _ v (inner_chain s i o j) =
+        go _ v (inner_chain s i o j _) =
             let outside_and : Bool = not (is_outside_body c.node) && has_parameter_expressions q.node in
             function_sides s j (subst (λ a. is_function_kind a ≡ true) (sym w) refl) environment.Parameters (record { kind = environment.OwnName; maker = q.node.node_id } ∷ []) refl refl
             (function_taker outside_and environment.Parameters (record { kind = environment.OwnName; maker = q.node.node_id } ∷ []) refl refl s (ap (map maker_of_scope) (sym v) ∙ round kind.Function w)) outside_and refl
@@ -209,7 +209,7 @@ module _ (g : ℕ → Option Node) where
       where
         go : (chain : List OpenScope) → c.chain ≡ chain → ChainOf q.node.kind c.role q.node q.chain chain → Sides g chain (made_by kind.ArrowFunctionExpression q.node c.node ++ E)
         go _ v (outer_chain i) = absurd (never (subst (λ a. is_inside a c.role ≡ false) w i))
-        go _ v (inner_chain s i o j) =
+        go _ v (inner_chain s i o j _) =
             let outside_and : Bool = not (is_outside_body c.node) && has_parameter_expressions q.node in
             function_sides s j (subst (λ a. is_function_kind a ≡ true) (sym w) refl) environment.ArrowParameters [] refl refl
             (function_taker outside_and environment.ArrowParameters [] refl refl s (ap (map maker_of_scope) (sym v) ∙ round kind.ArrowFunctionExpression w)) outside_and refl
@@ -274,7 +274,7 @@ module _ (g : ℕ → Option Node) where
       let more : (holds_below heads_parameters k2 below && holds_below heads_parameters q.node.kind after) ≡ true = and_second (heads_parameters q.node.kind r k2 text) (holds_below heads_parameters k2 below && holds_below heads_parameters q.node.kind after) heads in
       let no_identifier : is kind.BindingIdentifier q.node ≡ false = not-true (same_kind q.node.kind kind.BindingIdentifier) (and_first (not (same_kind q.node.kind kind.BindingIdentifier)) _ well) in
       let o_scope : OwnOf q turn.scope = own_of q r own n o in
-      let chain : ChainOf q.node.kind r q.node q.chain turn.child.chain = chain_of q r turn.scope cursor node child_familiar.undecorated (is_open_inside q r own n) o_scope in
+      let chain : ChainOf q.node.kind r q.node q.chain turn.child.chain = chain_of q r turn.scope cursor node (no_decorator q.node.kind r child_familiar.undecorated) (is_open_inside q r own n) o_scope in
       let child : is kind.BindingIdentifier node ≡ false → HasSides turn.child =
       λ i. child_sides q turn.child refl known child_known familiar well (and_first (heads_parameters q.node.kind r k2 text) (holds_below heads_parameters k2 below && holds_below heads_parameters q.node.kind after) heads) i (before no_identifier) chain in
       each_of_turn SidesAt turn (record {

@@ -19,6 +19,7 @@ use Rattle.semantic_model.proofs.once.ListedUnder.{name_tells}
 use Rattle.program_laws.proofs.DeclaredNodes.{among_flat}
 use Rattle.walk_model.proofs.declares.Simulated.{program_nested}
 use Rattle.walk_model.proofs.places.Nested.{AreNested, Descends, open_past, seen_past}
+use Rattle.binding_laws.proofs.ScopeOpeners.{openers, IsOpened, AllOpened, IsPlaceOpened, places_opened}
 use Rattle.language_ties.specs.AgreeingNames.{is_declared_plainly, leaves_block, crossed, IsAlone, IsPlainName}
 use Rattle.language_ties.specs.Bound.{Bound, bound_by_node, is_bound_as, written}
 use Rattle.language_ties.specs.EcmaScript.{is_ecmascript}
@@ -36,7 +37,6 @@ use Rattle.language_ties.proofs.headers.Paired.{by_kind}
 use Rattle.language_ties.proofs.moved.LeavingFunctions.{LeavesAt, leaves_at, IsLeft, is_left}
 use Rattle.language_ties.proofs.own_names.OwnBounds.{IsOfExpression, OwnBound, own_bound, own_maker}
 use Rattle.language_ties.proofs.symbols.OneSymbol.{of_map, of_flat, each_at, DeclarationOf, StaysThere, declaration_of}
-use Rattle.language_ties.proofs.symbols.ScopeOpeners.{openers, IsOpened, AllOpened, IsPlaceOpened, places_opened}
 
 never : true ≡ false → ⊥
 never h = absurd cc

@@ -1,6 +1,5 @@
 -- In a program of ECMAScript each reference is tied to what the nearest scope binds to its name.
 use Rattle.std.proofs.Common.{◌≡◌, ℕ, ◌∷◌, [], List, Option, Some, None, Bool, true, false, cond, map, inl, inr, refl, sym, ap, subst, ◌∙◌, bytes_eq, codes}
-use Rattle.std.specs.List.{cons_option}
 use Rattle.std.specs.Prelude.{slice_get}
 use Rattle.semantic_kinds.specs.declared.kind.AstType.TheVariants as kind
 use Rattle.semantic_syntax.specs.Lookup.{Lookup, tied, barred, lookup, tied_by, or_lookup, is_arguments, fits, ends_after}
@@ -12,12 +11,11 @@ use Rattle.semantic_tree.specs.Views.{is}
 use Rattle.semantic_model.specs.Binding.{get}
 use Rattle.semantic_model.specs.Cursor.{way_or_read}
 use Rattle.semantic_model.specs.EachStep.{EachStep}
-use Rattle.semantic_model.specs.Entries.{Among}
 use Rattle.semantic_model.specs.Event.{Event, declares, takes_over, ends_header, events, written_declarations}
 use Rattle.semantic_model.specs.Fold.{State, start, flags_of, flags_or_none, or_else}
 use Rattle.semantic_model.specs.Hoist.{act, run}
 use Rattle.semantic_model.specs.Place.{Place, OpenScope}
-use Rattle.semantic_model.specs.Reference.{Occurrence, reference_at, references}
+use Rattle.semantic_model.specs.Reference.{references}
 use Rattle.semantic_model.specs.Step.{Step, entering, opening, header_ending, closing, leaving, steps}
 use Rattle.semantic_model.specs.Tie.{seen_as, answer, symbol_by, view, view_by, until_end_of, is_end_of}
 use Rattle.semantic_model.proofs.fold.Changes.{Sound, Holds, HasName, sound_start}
@@ -28,6 +26,7 @@ use Rattle.semantic_model.proofs.lists.BindingLaws.{get_among}
 use Rattle.semantic_model.proofs.lists.Members.{among_at}
 use Rattle.semantic_model.proofs.once.HeadersEndOnce.{IsEntered}
 use Rattle.semantic_model.proofs.once.ReferencesStand.{entry_is}
+use Rattle.binding_laws.proofs.ReferredNodes.{ReadAt, read_at}
 use Rattle.language_ties.specs.EcmaScript.{is_ecmascript}
 use Rattle.language_ties.specs.NearestScopes.{nearest_symbol, AreTiedNearest}
 use Rattle.language_ties.proofs.shared.PlainNodes.{ecmascript_program}
@@ -52,29 +51,6 @@ plain_of_entered q (opening p s ∷ more) h e = plain_of_entered q more h.1 e
 plain_of_entered q (header_ending p s ∷ more) h e = plain_of_entered q more h.1 e
 plain_of_entered q (closing p s ∷ more) h e = plain_of_entered q more h.1 e
 plain_of_entered q (leaving p ∷ more) h e = plain_of_entered q more h.1 e
-
--- the place where a reference is entered
-pub record ReadAt (r : Occurrence) (ss : List Step) : Type 0 where
-  pub place : Place
-  pub entered : IsEntered place ss
-  pub refers : is kind.IdentifierReference place.node ≡ true
-  pub is_it : reference_at place ≡ r
-
-read_later : (r : Occurrence) (step : Step) (more : List Step) → ((q : Place) → IsEntered q more → IsEntered q (step ∷ more)) → ReadAt r more → ReadAt r (step ∷ more)
-read_later r step more f h = record { place = h.place; entered = f h.place h.entered; refers = h.refers; is_it = h.is_it }
-
-pub read_at : (r : Occurrence) (ss : List Step) → Among r (references ss) → ReadAt r ss
-read_at r [] a = absurd a
-read_at r (entering p ∷ more) a = go (is kind.IdentifierReference p.node) refl a (read_at r more)
-  where
-    go : (b : Bool) → is kind.IdentifierReference p.node ≡ b → Among r (cons_option (cond b (Some (reference_at p)) None) (references more)) → (Among r (references more) → ReadAt r more) → ReadAt r (entering p ∷ more)
-    go true e (inl q) later = record { place = p; entered = inl refl; refers = e; is_it = q }
-    go true e (inr q) later = read_later r (entering p) more (λ z k. inr k) (later q)
-    go false e q later = read_later r (entering p) more (λ z k. inr k) (later q)
-read_at r (opening p s ∷ more) a = read_later r (opening p s) more (λ q k. k) (read_at r more a)
-read_at r (header_ending p s ∷ more) a = read_later r (header_ending p s) more (λ q k. k) (read_at r more a)
-read_at r (closing p s ∷ more) a = read_later r (closing p s) more (λ q k. k) (read_at r more a)
-read_at r (leaving p ∷ more) a = read_later r (leaving p) more (λ q k. k) (read_at r more a)
 
 -- the events before the end of a header
 orderly_until : (table : List (Option ℕ)) (c : ℕ) (st : State) (es : List Event) → Orderly table st es → Orderly table st (until_end_of c es)

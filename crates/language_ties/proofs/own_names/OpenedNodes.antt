@@ -15,8 +15,8 @@ use Rattle.semantic_model.proofs.lists.Members.{among_left, among_right, among_c
 use Rattle.semantic_model.proofs.steps.OpenedFrom.{OpenedFrom}
 use Rattle.semantic_model.proofs.steps.Turn.{Turn, turn_at}
 use Rattle.semantic_model.proofs.steps.TurnCases.{opening_case, ending_case, last_case}
+use Rattle.binding_laws.proofs.ScopeOpeners.{openers, IsOpened, opened_at}
 use Rattle.language_ties.proofs.shared.Numbers.{NumberedFrom, numbered_program}
-use Rattle.language_ties.proofs.symbols.ScopeOpeners.{openers, IsOpened, opened_at}
 
 -- the place's own scope opens among the steps
 pub record Opens (q : Place) (ss : List Step) : Type 0 where

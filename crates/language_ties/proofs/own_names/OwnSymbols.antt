@@ -25,13 +25,14 @@ use Rattle.semantic_model.specs.TablesOf.{tables_of, scopes, evals}
 use Rattle.semantic_model.proofs.fits.Outwards.{bound_as, scopes_length}
 use Rattle.semantic_model.proofs.fold.Orders.{table_of}
 use Rattle.walk_model.proofs.once.NamesInRole.{AtMostOne}
+use Rattle.binding_laws.proofs.EnteredOnce.{entered_once}
+use Rattle.binding_laws.proofs.ScopeOpeners.{openers, IsOpened, one_scope}
 use Rattle.language_ties.specs.AgreeingNames.{IsPlainName}
 use Rattle.language_ties.specs.Bound.{Bound, is_bound_as}
 use Rattle.language_ties.specs.EcmaScript.{is_ecmascript}
 use Rattle.language_ties.specs.SharedSymbols.{AllKeepClear, ShareSymbols, HasHomesSymbol, IsDeclaredAt}
 use Rattle.language_ties.specs.declared.bound_as.BoundAs.TheVariants as bound
 use Rattle.language_ties.proofs.UndeclaredNames.{each_identifier}
-use Rattle.language_ties.proofs.agree.EnteredOnce.{entered_once}
 use Rattle.language_ties.proofs.agree.FamiliarPlaces.{IsFamiliar, FamiliarAt, familiar_program}
 use Rattle.language_ties.proofs.agree.KnownNodes.{node_at}
 use Rattle.language_ties.proofs.clear.SingleNames.{identifier_of, same_declaration, declared_once}
@@ -43,7 +44,6 @@ use Rattle.language_ties.proofs.own_names.OwnIds.{named_once}
 use Rattle.language_ties.proofs.shared.HomesShared.{share_symbols, is_made, at_last}
 use Rattle.language_ties.proofs.shared.Shared.{IsBoundNow}
 use Rattle.language_ties.proofs.symbols.OneSymbol.{each_at}
-use Rattle.language_ties.proofs.symbols.ScopeOpeners.{openers, IsOpened, one_scope}
 use Rattle.language_ties.proofs.symbols.SymbolNumbers.{symbol_is}
 
 -- two of at most one are the same

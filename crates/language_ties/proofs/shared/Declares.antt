@@ -1,5 +1,5 @@
 -- A declaration of the name that keeps clear of those before it shares the symbol of its scope, or begins one.
-use Rattle.std.proofs.Common.{◌≡◌, ℕ, ◌+◌, ◌<◌, ◌≤◌, ◌==◌, List, [], ◌∷◌, ◌++◌, Option, Some, None, Bool, true, false, not, inl, inr, ◌⊎◌, refl, sym, ap, subst, ◌∙◌, length, cond, map, option_map, arith}
+use Rattle.std.proofs.Common.{◌≡◌, ℕ, ◌<◌, ◌≤◌, ◌==◌, List, [], ◌∷◌, ◌++◌, Option, Some, None, Bool, true, false, not, inl, inr, ◌⊎◌, refl, sym, ap, subst, ◌∙◌, length, cond, map, option_map, arith}
 use Rattle.std.specs.Prelude.{slice_get}
 use Rattle.std.specs.Int.RustNames.{bit_and}
 use Rattle.std.proofs.lemmas.Bool.{cases_Bool}
@@ -21,8 +21,8 @@ use Rattle.semantic_model.proofs.bindings.VarTargets.{Leads, AllLead, IsLed}
 use Rattle.semantic_model.proofs.lists.BindingLaws.{same_key_tells, get-put, get-put_same, get-put_other}
 use Rattle.semantic_model.proofs.lists.Members.{among_left, among_last, among_more, contains_left, contains_right, contains_first}
 use Rattle.semantic_model.proofs.lists.SymbolLaws.{get-update, get-last}
+use Rattle.binding_laws.proofs.Growing.{pushed_flags}
 use Rattle.language_ties.specs.SharedSymbols.{is_own_name, IsBoundIn, KeepClear}
-use Rattle.language_ties.proofs.shared.Untouched.{flags_pushed}
 use Rattle.language_ties.proofs.shared.Shared.{is_hidden, RouteBelow, IsNowIn, IsBoundNow, BoundBy, RememberedBy, Shared, bound_more, remembered_more}
 
 -- a flag that the added ones have not
@@ -143,7 +143,7 @@ module _ (table : List (Option ℕ)) (x : Name) where
     older_flags : (y : Made) → Among y st.made → y.declaration.naming.name ≡ x → is_hidden (flags_or_none (slice_get (st.symbols ++ new_symbol t d.naming ∷ []) y.symbol)) ≡ is_own_name y.declaration
     older_flags y a e =
         let w : HasName st.symbols y.symbol y.declaration.naming.name = sound.has_name y a in
-        ap is_hidden (flags_pushed st.symbols (new_symbol t d.naming) w.symbol y.symbol w.is_there) ∙ h.flags y a e
+        ap is_hidden (pushed_flags st.symbols (new_symbol t d.naming) w.symbol y.symbol w.is_there) ∙ h.flags y a e
 
     pub made_here : IsHiddenIn t → Shared table x k l (make st t d)
     made_here q = subst (λ y. Shared table x k l (note_symbol (record st { bindings = put st.bindings t y fresh_symbol; symbols = st.symbols ++ new_symbol t d.naming ∷ [] }) d fresh_symbol)) (sym named) (record {

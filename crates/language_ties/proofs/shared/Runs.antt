@@ -20,11 +20,11 @@ use Rattle.semantic_model.proofs.fold.TakeOvers.{Ready, two, Orderly, sound_act}
 use Rattle.semantic_model.proofs.lists.BindingLaws.{same_key_tells, get-remove, get-put_other, get-remove_other, get-take_over_other}
 use Rattle.semantic_model.proofs.lists.Members.{among_more}
 use Rattle.semantic_model.proofs.once.ListedUnder.{name_tells}
+use Rattle.binding_laws.proofs.OtherNames.{leaves_name}
 use Rattle.language_ties.specs.SharedSymbols.{KeepClear, AllKeepClear}
 use Rattle.language_ties.proofs.shared.Declares.{IsFit}
 use Rattle.language_ties.proofs.shared.Events.{IsNumbered, AllNumbered}
 use Rattle.language_ties.proofs.shared.Shared.{Shared, shared_untouched, shared_taken, taken_gone}
-use Rattle.language_ties.proofs.shared.Untouched.{untouched_changes}
 use Rattle.language_ties.proofs.shared.Ways.{by_way}
 
 module _ (table : List (Option ℕ)) (root : slice_get table 0 ≡ Some None) (v : ℕ → ℕ) (x : Name) where
@@ -42,7 +42,7 @@ module _ (table : List (Option ℕ)) (root : slice_get table 0 ≡ Some None) (v
   one_declaration n m k l st d es fit lead order sound clear led h = elim (name_tells d.naming.name x) [
     | inl e ↦ subst (λ y. Shared table y k l (act st (declares d))) e.1
         (by_way table v n m k l st d sound (subst (λ y. Shared table y n m st) (sym e.1) h) fit (λ y a q. clear y a (q ∙ e.1) d (inl refl) e.1) d.how refl (λ y a q. led y a (q ∙ e.1)) lead)
-    | inr e ↦ shared_untouched table x n m k l st (act st (declares d)) fit.more fit.opens (untouched_changes table x d e.1 sound (changes_declare table st d order.0 sound)) h
+    | inr e ↦ shared_untouched table x n m k l st (act st (declares d)) fit.more fit.opens (leaves_name table x d e.1 sound (changes_declare table st d order.0 sound)) h
   ]
 
   clear_next : (st : State) (d : Declaration) (es : List Event) → AreClear st.made (declares d ∷ es) → (d.naming.name ≡ x → (e : Declaration) → Among e (declarations es) → e.naming.name ≡ x → KeepClear d e) → AreClear (act st (declares d)).made es

@@ -1,21 +1,22 @@
 -- What is bound and remembered of a name whose declarations keep clear of each other.
-use Rattle.std.proofs.Common.{◌≡◌, ℕ, suc, ◌<◌, ◌≤◌, List, [], ◌∷◌, Option, Some, None, Bool, true, false, inl, inr, ◌⊎◌, refl, sym, ap, subst, ◌∙◌, map, arith}
+use Rattle.std.proofs.Common.{◌≡◌, ℕ, suc, ◌<◌, ◌≤◌, List, Option, Some, None, Bool, true, false, inl, inr, ◌⊎◌, refl, sym, ap, subst, ◌∙◌, map, arith}
 use Rattle.std.specs.Prelude.{slice_get}
 use Rattle.std.proofs.lemmas.Bool.Decides.{eqb_tells}
 use Rattle.semantic_syntax.specs.Members.{contains}
 use Rattle.semantic_syntax.specs.Sets.{meets}
-use Rattle.semantic_syntax.specs.Tables.{Name, Symbol, Bindings}
+use Rattle.semantic_syntax.specs.Tables.{Name}
 use Rattle.semantic_syntax.specs.declared.symbol_flags.TheConstants.SymbolFlags as symbol
 use Rattle.semantic_model.specs.Binding.{Binding, get, take_over, bound_by}
 use Rattle.semantic_model.specs.Declaration.{Declaration, hoisted, moved, stands_in}
 use Rattle.semantic_model.specs.Entries.{Among}
 use Rattle.semantic_model.specs.Event.{takes_over}
-use Rattle.semantic_model.specs.Fold.{State, Made, start, update, in_scope, flags_of, flags_or_none}
-use Rattle.semantic_model.specs.Hoist.{rescoped, act}
+use Rattle.semantic_model.specs.Fold.{State, Made, start, flags_of}
+use Rattle.semantic_model.specs.Hoist.{act}
 use Rattle.semantic_model.proofs.fold.TakeOvers.{Ready, two}
 use Rattle.semantic_model.proofs.lists.BindingLaws.{get_among, among_taken, get-take_over_other, get-take_over_body}
+use Rattle.binding_laws.proofs.Growing.{rescoped_flags}
+use Rattle.binding_laws.proofs.OtherNames.{LeavesName}
 use Rattle.language_ties.specs.SharedSymbols.{is_own_name}
-use Rattle.language_ties.proofs.shared.Untouched.{Untouched, flags_rescoped}
 
 abbrev pub is_hidden : ℕ → Bool
 is_hidden flags = meets flags symbol.FunctionExpression.bits
@@ -77,7 +78,7 @@ module _ (table : List (Option ℕ)) (x : Name) where
   bound_now_kept bs cs d s f (inr h) = inr (h.0, h.1, h.2, f h.0 ∙ h.3)
 
   -- what another name's declaration leaves
-  pub shared_untouched : (n m k l : ℕ) (a b : State) → n ≤ k → m ≤ l → Untouched table x a b → Shared n m a → Shared k l b
+  pub shared_untouched : (n m k l : ℕ) (a b : State) → n ≤ k → m ≤ l → LeavesName table x a b → Shared n m a → Shared k l b
   shared_untouched n m k l a b i j u h = record {
     bound = λ c s e. bound_more n m k l a.made b.made c s i j u.kept (h.bound c s (sym (u.bindings c) ∙ e));
     remembered = λ c s e. remembered_more n k a.made b.made c s i u.kept (h.remembered c s (sym (u.remembered c) ∙ e));
@@ -88,10 +89,6 @@ module _ (table : List (Option ℕ)) (x : Name) where
   }
 
   -- ---- a body takes over a clause
-
-  flags_taken : (ys : List Symbol) (bs : Bindings) (b s : ℕ) → flags_or_none (slice_get (rescoped ys bs b) s) ≡ flags_or_none (slice_get ys s)
-  flags_taken ys [] b s = refl
-  flags_taken ys (y ∷ bs) b s = flags_taken (update (in_scope b) ys y.1) bs b s ∙ flags_rescoped ys b y.1 s
 
   pub taken_gone : (bs : List Binding) (c b : ℕ) → (c ≡ b → ⊥) → (s : ℕ) → get (take_over bs c b) c x ≡ Some s → ⊥
   taken_gone bs c b n s h = among_taken (record { scope = c; name = x; symbol = s }) bs c b n (get_among (take_over bs c b) c x s h) refl
@@ -153,6 +150,6 @@ module _ (table : List (Option ℕ)) (x : Name) where
       remembered = λ e s q. remembered_more n (suc b) st.made st.made e s (omega arith) (λ y a. a) (h.remembered e s q);
       declared = λ k a e o. taken_now k.declaration k.symbol (h.entries k a e) (h.declared k a e o);
       hidden = λ k a e o. (let w : (s : ℕ) × IsBoundNow st.bindings k.declaration s = h.hidden k a e o in (w.0, taken_now k.declaration w.0 (h.entries k a e) w.1));
-      flags = λ k a e. ap is_hidden (flags_taken st.symbols (bound_by st.bindings c) b k.symbol) ∙ h.flags k a e;
+      flags = λ k a e. ap is_hidden (rescoped_flags st.symbols (bound_by st.bindings c) b k.symbol) ∙ h.flags k a e;
       entries = h.entries;
     }

@@ -15,8 +15,8 @@ use Rattle.semantic_model.proofs.bindings.VarTargets.{AllLead, IsLed}
 use Rattle.semantic_model.proofs.lists.BindingLaws.{same_key_tells, get-put, get-remove, get-put_same, get-put_other, get-remove_other}
 use Rattle.semantic_model.proofs.lists.Members.{among_left, among_last, among_more}
 use Rattle.semantic_model.proofs.lists.SymbolLaws.{get-last}
+use Rattle.binding_laws.proofs.Growing.{pushed_flags, same_flags}
 use Rattle.language_ties.specs.SharedSymbols.{is_own_name, KeepClear}
-use Rattle.language_ties.proofs.shared.Untouched.{flags_pushed, flags_rescoped}
 use Rattle.language_ties.proofs.shared.Shared.{is_hidden, IsBoundNow, BoundBy, RememberedBy, Shared, bound_more, remembered_more}
 use Rattle.language_ties.proofs.shared.Declares.{IsFit, stands_on_path, passed_stands, bound_stands, bindings_against_all, all_passed, shared_against_all, shared_remembering, none_if, now_bound, found_none, in_target, made_here, found_here, on_the_way, found_visible}
 
@@ -162,7 +162,7 @@ module _ (table : List (Option ℕ)) (v : ℕ → ℕ) (n m k l : ℕ) (st : Sta
     older_flags : (y : Made) → Among y st.made → y.declaration.naming.name ≡ x → is_hidden (flags_or_none (slice_get ys y.symbol)) ≡ is_own_name y.declaration
     older_flags y a q =
         let w : HasName st.symbols y.symbol y.declaration.naming.name = sound.has_name y a in
-        ap is_hidden (flags_rescoped (st.symbols ++ new_symbol c d.naming ∷ []) t new y.symbol ∙ flags_pushed st.symbols (new_symbol c d.naming) w.symbol y.symbol w.is_there) ∙ h.flags y a q
+        ap is_hidden (same_flags (in_scope t) (st.symbols ++ new_symbol c d.naming ∷ []) new y.symbol (λ z. refl) ∙ pushed_flags st.symbols (new_symbol c d.naming) w.symbol y.symbol w.is_there) ∙ h.flags y a q
 
     out_shared : Shared table x k l out
     out_shared = record {
@@ -186,7 +186,7 @@ module _ (table : List (Option ℕ)) (v : ℕ → ℕ) (n m k l : ℕ) (st : Sta
       flags = λ y a q. elim (among_more y both st.made a) [
         | inl b ↦ older_flags y b q
         | inr b ↦ subst (λ z. is_hidden (flags_or_none (slice_get ys z.symbol)) ≡ is_own_name z.declaration) b
-            (ap is_hidden (flags_rescoped (st.symbols ++ new_symbol c d.naming ∷ []) t new new) ∙ ap (λ o. is_hidden (flags_or_none o)) (get-last st.symbols (new_symbol c d.naming)))
+            (ap is_hidden (same_flags (in_scope t) (st.symbols ++ new_symbol c d.naming ∷ []) new new (λ z. refl)) ∙ ap (λ o. is_hidden (flags_or_none o)) (get-last st.symbols (new_symbol c d.naming)))
       ];
       entries = λ y a q. elim (among_more y both st.made a) [
         | inl b ↦ h.entries y b q

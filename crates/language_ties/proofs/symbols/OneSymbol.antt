@@ -26,6 +26,7 @@ use Rattle.semantic_model.proofs.fold.EachDeclared.{EachDeclared, each_on_enteri
 use Rattle.semantic_model.proofs.fold.Orders.{HasForm, table_of, root_body, steps_in}
 use Rattle.semantic_model.proofs.form.Shape.{has_form}
 use Rattle.semantic_model.proofs.lists.Members.{among_left, among_right}
+use Rattle.binding_laws.proofs.ScopeOpeners.{openers, IsOpened, AllOpened, IsPlaceOpened, targets_opened, places_opened, root_opener, one_scope}
 use Rattle.language_ties.specs.Bound.{Bound, bound_identifier, bound_by_node, is_bound_as}
 use Rattle.language_ties.specs.EcmaScript.{is_ecmascript_kind, is_ecmascript}
 use Rattle.language_ties.specs.OneSymbol.{IsBoundByNode, HaveOneSymbol, EnvironmentsHaveOneSymbol}
@@ -39,7 +40,6 @@ use Rattle.language_ties.proofs.block_functions.StayingFunctions.{StaysInBlock, 
 use Rattle.language_ties.proofs.block_functions.StrictPlaces.{Strict, StrictAt, strict_program}
 use Rattle.language_ties.proofs.shared.Events.{entering_visible}
 use Rattle.language_ties.proofs.shared.PlainNodes.{IsPlainPlace, IsEcmaScriptAt, ecmascript_program}
-use Rattle.language_ties.proofs.symbols.ScopeOpeners.{openers, IsOpened, AllOpened, IsPlaceOpened, targets_opened, places_opened, root_opener, one_scope}
 use Rattle.language_ties.proofs.symbols.SymbolNumbers.{symbol_is}
 
 -- ---- lists

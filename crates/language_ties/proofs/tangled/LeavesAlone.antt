@@ -15,6 +15,7 @@ use Rattle.semantic_model.specs.Place.{Place}
 use Rattle.semantic_model.specs.Step.{Step, entering, steps}
 use Rattle.semantic_model.proofs.once.ListedUnder.{name_tells}
 use Rattle.program_laws.proofs.DeclaredNodes.{among_map}
+use Rattle.binding_laws.proofs.EnteredOnce.{entered_once}
 use Rattle.tangle_model.specs.Mention.{Mention, noted_if, function_noted, is_block_function, noted_at, mentions}
 use Rattle.tangle_model.specs.Repeated.{Key, same_key, is_mention_of, key_of, keys_of, key_stands, repeats}
 use Rattle.tangle_model.specs.Surroundings.{home_under, around_under}
@@ -27,7 +28,6 @@ use Rattle.language_ties.specs.EcmaScript.{is_ecmascript}
 use Rattle.language_ties.specs.Environments.{Environment, environments, innermost, passed, variable_environment}
 use Rattle.language_ties.specs.declared.bound_as.BoundAs.TheVariants as bound
 use Rattle.language_ties.specs.declared.environment_kind.EnvironmentKind.TheVariants as environment
-use Rattle.language_ties.proofs.agree.EnteredOnce.{entered_once}
 use Rattle.language_ties.proofs.agree.FamiliarPlaces.{IsFamiliar, FamiliarAt, familiar_program}
 use Rattle.language_ties.proofs.agree.KnownNodes.{node_at}
 use Rattle.language_ties.proofs.agree.MadeEnvironments.{EndsAtProgram}

@@ -1,5 +1,5 @@
 -- Where a `var` passes a catch clause, the clause holds it in the same home.
-use Rattle.std.proofs.Common.{◌≡◌, ℕ, List, [], ◌∷◌, ◌++◌, Option, Some, None, Bool, true, false, ◌&&◌, ◌||◌, not, cond, inl, inr, refl, sym, ap, subst, ◌∙◌}
+use Rattle.std.proofs.Common.{◌≡◌, ℕ, List, [], ◌∷◌, ◌++◌, Some, Bool, true, false, ◌&&◌, ◌||◌, not, cond, inl, inr, refl, sym, ap, subst, ◌∙◌}
 use Rattle.semantic_syntax.proofs.Truth.{or_true}
 use Rattle.semantic_kinds.specs.Classes.{holds_kind}
 use Rattle.semantic_kinds.specs.Kinds.{same_kind}
@@ -12,12 +12,12 @@ use Rattle.semantic_model.specs.Binder.{is_statement}
 use Rattle.semantic_model.specs.Entries.{Among}
 use Rattle.semantic_model.specs.Place.{Place}
 use Rattle.semantic_model.specs.Step.{entering, steps}
+use Rattle.binding_laws.proofs.EnteredOnce.{entered_once}
 use Rattle.tangle_model.specs.Surroundings.{is_home, home_under, in_catch_under}
 use Rattle.language_ties.specs.EcmaScript.{is_ecmascript_kind}
 use Rattle.language_ties.specs.Environments.{Environment, has_parameter_expressions, is_outside_body, is_body_of_with, made_by, environments, passed, takes_variables}
 use Rattle.language_ties.specs.declared.environment_kind.EnvironmentKind.{EnvironmentKind}
 use Rattle.language_ties.specs.declared.environment_kind.EnvironmentKind.TheVariants as environment
-use Rattle.language_ties.proofs.agree.EnteredOnce.{entered_once}
 use Rattle.language_ties.proofs.agree.FamiliarPlaces.{ParentsFit, AllKnown}
 use Rattle.language_ties.proofs.agree.KnownNodes.{node_at}
 use Rattle.language_ties.proofs.tangled.NamePlaces.{IsEnteredAs, AllEnteredAs}

@@ -2,6 +2,7 @@
 ghost use Rattle.std.specs.Prelude.{◌≡◌, ◌<◌, ◌++◌, [], ◌∷◌, length, is_some, None, IfOk, OnOk, OnErr};
 ghost use Rattle.std.specs.Str.{bytes_eq};
 ghost use Rattle.std.specs.Map.{lookup, values_of};
+ghost use Rattle.scoping.specs.Claimed.{claimed};
 ghost use Rattle.scoping.specs.Numbering.{numbered_from};
 ghost use Rattle.scoping_rows.specs.Names.{name_of};
 ghost use Rattle.semantic_syntax.specs.Reading.{bindings_of, chain, first_bound};
@@ -51,6 +52,43 @@ impl Scoping {
         let row = SymbolRow::new(number, span, flags, scope, node);
         push_symbol(self.alloc, &mut self.symbols, &mut self.uses, row);
         Ok(id)
+    }
+
+    /// What the scope binds to the name, if anything. If nothing, it makes a symbol of the scope, which binds it to the
+    /// name then.
+    pub fn claim(
+        &mut self,
+        span: Span,
+        name: Ident<'_>,
+        flags: SymbolFlags,
+        scope: ScopeId,
+        node: NodeId,
+    ) -> Result<Option<SymbolId>, AllocError>
+        requires room { length self.old.symbols < 4294967295 }
+        requires scope { scope < length self.old.scopes }
+        ensures bound { IfOk result
+            (λ o. o ≡ lookup (bytes_eq (name_of name.entry)) (bindings_of self.old scope)) }
+        ensures ok { OnOk result
+            (self.new ≡ claimed self.old record {
+              name = name_of name.entry;
+              span = span;
+              flags = flags;
+              scope = scope;
+              node = node;
+              redeclarations = None;
+            }) }
+        ensures err { OnErr result (self.new ≡ self.old) }
+    {
+        let id = SymbolId::new(self.symbols.len() as u32);
+        reserve_symbol(&mut self.symbols, &mut self.uses)?;
+        let number = self.names.intern(name)?;
+        if let Some(symbol) = self.bindings.get(scope, number) {
+            return Ok(Some(symbol));
+        }
+        self.bindings.insert(scope, number, id)?;
+        let row = SymbolRow::new(number, span, flags, scope, node);
+        push_symbol(self.alloc, &mut self.symbols, &mut self.uses, row);
+        Ok(None)
     }
 
     /// The symbol that the scope binds to the name.

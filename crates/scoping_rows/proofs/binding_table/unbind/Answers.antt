@@ -1,47 +1,42 @@
-use Rattle.std.proofs.Common.{None, sym, ap, subst, ◌∙◌}
-use Rattle.scoping_rows.specs.Flat.{StandsAt, filled}
-use Rattle.scoping_rows.proofs.Filled.{filled-unbound, filled-clear, without_none}
-use Rattle.scoping_rows.proofs.Indexed.{position_within, stands-clear, told_here, told_elsewhere, elsewhere_trans}
+use Rattle.std.proofs.Common.{None, get_or, ap, ◌∙◌}
+use Rattle.scoping_rows.specs.Flat.{filled}
+use Rattle.scoping_rows.proofs.Filled.{at_position, filled-unbound, filled-clear, without_none}
+use Rattle.scoping_rows.proofs.Indexed.{slot_of, slot_within}
+use Rattle.scoping_rows.proofs.Near.{told_near, indexed_clear}
 use Rattle.scoping_rows.proofs.binding_table.unbind.Goals as goal
 
 pub returns-in-None-clause-gone : goal.returns-in-None-clause-gone
-returns-in-None-clause-gone c = filled-unbound c.args.number c.args.slots.now (subst (StandsAt c.args.slots.now c.args.number) (sym c.in-None.ensures.value) (c.requires c.args.number))
+returns-in-None-clause-gone c = filled-unbound c.args.number c.args.slots.now c.in-None.ensures
+
+pub forget-requires : goal.forget-requires
+forget-requires c =
+    let xs = c.args.slots.now in
+    let was = slot_of c.args.number (get_or xs c.in-Some.position None) (at_position xs c.args.number c.in-Some.position c.in-Some.ensures) in
+    told_near c.args.positions.now.entries c.args.scope xs c.requires c.args.number was.0 c.in-Some.position was.1
 
 pub clear-requires : goal.clear-requires
-clear-requires c = position_within c.args.slots.now _ c.requires c.args.number c.in-Some.position (sym c.in-Some.ensures.value)
-
-pub returns-then-is_sparse-clause-elsewhere : goal.returns-then-is_sparse-clause-elsewhere
-returns-then-is_sparse-clause-elsewhere c =
-    let mid = c.swap_remove.new.self.entries in
-    elsewhere_trans c.args.positions.now.entries mid c.pack.new.positions.entries c.args.scope
-    (told_elsewhere c.args.positions.now.entries mid c.args.scope c.args.number None c.in-Some.ensures.updates.0)
-    c.pack.ensures.elsewhere
-
-pub returns-then-is_sparse-clause-gone : goal.returns-then-is_sparse-clause-gone
-returns-then-is_sparse-clause-gone c =
-    let xs = c.args.slots.now in
-    c.pack.ensures.kept
-    ∙ without_none (filled c.clear.new.self)
-    ∙ ap filled c.clear.ensures
-    ∙ filled-clear c.args.number c.in-Some.position xs (subst (StandsAt xs c.args.number) (sym c.in-Some.ensures.value) (c.requires c.args.number))
-
-pub returns-else-is_sparse-clause-gone : goal.returns-else-is_sparse-clause-gone
-returns-else-is_sparse-clause-gone c =
-    let xs = c.args.slots.now in
-    ap filled c.clear.ensures
-    ∙ filled-clear c.args.number c.in-Some.position xs (subst (StandsAt xs c.args.number) (sym c.in-Some.ensures.value) (c.requires c.args.number))
+clear-requires c = slot_within c.args.slots.now c.in-Some.position c.args.number (at_position c.args.slots.now c.args.number c.in-Some.position c.in-Some.ensures)
 
 pub pack-requires : goal.pack-requires
 pack-requires c =
-    rw c.clear.ensures
-    (stands-clear c.args.slots.now _ c.requires c.args.number _ c.in-Some.position (sym c.in-Some.ensures.value)
-    (told_here c.args.positions.now.entries c.swap_remove.new.self.entries c.args.scope c.args.number None c.in-Some.ensures.updates.0))
+    let xs = c.args.slots.now in
+    let was = slot_of c.args.number (get_or xs c.in-Some.position None) (at_position xs c.args.number c.in-Some.position c.in-Some.ensures) in
+    rw c.clear.ensures (indexed_clear c.args.positions.now.entries c.args.scope xs c.requires c.forget.new.positions.entries c.args.number was.0 c.in-Some.position was.1 c.forget.ensures)
+
+pub returns-then-is_sparse-clause-gone : goal.returns-then-is_sparse-clause-gone
+returns-then-is_sparse-clause-gone c =
+    c.pack.ensures.kept
+    ∙ without_none (filled c.clear.new.self)
+    ∙ ap filled c.clear.ensures
+    ∙ filled-clear c.args.number c.in-Some.position c.args.slots.now c.in-Some.ensures
 
 pub returns-else-is_sparse-clause-positions : goal.returns-else-is_sparse-clause-positions
 returns-else-is_sparse-clause-positions c =
-    rw c.clear.ensures
-    (stands-clear c.args.slots.now _ c.requires c.args.number _ c.in-Some.position (sym c.in-Some.ensures.value)
-    (told_here c.args.positions.now.entries c.swap_remove.new.self.entries c.args.scope c.args.number None c.in-Some.ensures.updates.0))
+    let xs = c.args.slots.now in
+    let was = slot_of c.args.number (get_or xs c.in-Some.position None) (at_position xs c.args.number c.in-Some.position c.in-Some.ensures) in
+    rw c.clear.ensures (indexed_clear c.args.positions.now.entries c.args.scope xs c.requires c.forget.new.positions.entries c.args.number was.0 c.in-Some.position was.1 c.forget.ensures)
 
-pub returns-else-is_sparse-clause-elsewhere : goal.returns-else-is_sparse-clause-elsewhere
-returns-else-is_sparse-clause-elsewhere c = told_elsewhere c.args.positions.now.entries c.swap_remove.new.self.entries c.args.scope c.args.number None c.in-Some.ensures.updates.0
+pub returns-else-is_sparse-clause-gone : goal.returns-else-is_sparse-clause-gone
+returns-else-is_sparse-clause-gone c =
+    ap filled c.clear.ensures
+    ∙ filled-clear c.args.number c.in-Some.position c.args.slots.now c.in-Some.ensures

@@ -1,8 +1,7 @@
-use Rattle.std.proofs.Common.{◌∷◌, sym, ◌∙◌}
+use Rattle.std.proofs.Common.{◌∷◌, ◌∙◌}
 use Rattle.semantic_tree.specs.Children.{forest_of}
-use Rattle.table_building.proofs.Growing.{goes-refl, goes-trans}
+use Rattle.table_building.proofs.Growing.{goes-trans}
 use Rattle.semantic_walk.proofs.Going.{turn-goes}
-use Rattle.semantic_walk.proofs.EvenNodes.{comes_alike}
 use Rattle.semantic_walk.proofs.Visiting.{stands_at_child}
 use Rattle.semantic_walk.proofs.walk.Walk.begin_child.Goals as goal
 
@@ -11,19 +10,14 @@ returns-clause-comes c = λ ds p own n cursor start rest node role between.
     let opens = c.in_ok-open_for.ensures.opens ds p own n cursor start (forest_of ((c.args.role, c.args.child.node.now) ∷ rest)) node role between in
     (stands_at_child ds p own n cursor start (c.args.role, c.args.child.node.now) rest c.args.parent.node.now c.args.self.now c.open_for.new.self c.stand_at_child.new.self c.args.turn.now c.open_for.new.turn node between opens.0 opens.1 c.stand_at_child.ensures.made, opens.1)
 
-pub returns-then-alike-clause-comes : goal.returns-then-alike-clause-comes
-returns-then-alike-clause-comes c = λ ds p own n cursor start rest node role between.
-    comes_alike ds c.args.self.now c.args.turn.now p own n cursor start (forest_of ((c.args.role, c.args.child.node.now) ∷ rest)) c.args.parent.node.now c.args.role c.args.child.node.now
-    node (sym c.requires.alike ∙ c.if-alike.true) between
-
 pub open_for-requires-clause-turn : goal.open_for-requires-clause-turn
 open_for-requires-clause-turn c = c.requires.turn
 
 pub open_for-requires-clause-ids : goal.open_for-requires-clause-ids
 open_for-requires-clause-ids c = c.requires.ids
 
-pub stand_at_child-requires : goal.stand_at_child-requires
-stand_at_child-requires c = c.in_ok-open_for.ensures.stands
+pub stand_at_child-requires-clause-turn : goal.stand_at_child-requires-clause-turn
+stand_at_child-requires-clause-turn c = c.in_ok-open_for.ensures.stands
 
 pub returns-clause-goes : goal.returns-clause-goes
 returns-clause-goes c = goes-trans c.args.self.now.made c.open_for.new.self.made c.stand_at_child.new.self.made c.in_ok-open_for.ensures.goes c.stand_at_child.ensures.goes
@@ -34,8 +28,6 @@ returns-clause-stands c = turn-goes c.open_for.new.self.made c.stand_at_child.ne
 pub returns-clause-start : goal.returns-clause-start
 returns-clause-start c = c.in_ok-open_for.ensures.start
 
-pub returns-then-alike-clause-goes : goal.returns-then-alike-clause-goes
-returns-then-alike-clause-goes c = goes-refl c.args.self.now.made
-
-pub returns-then-alike-clause-stands : goal.returns-then-alike-clause-stands
-returns-then-alike-clause-stands c = c.requires.turn
+-- the kind stays
+pub stand_at_child-requires-clause-kind : goal.stand_at_child-requires-clause-kind
+stand_at_child-requires-clause-kind c = c.in_ok-open_for.ensures.kind ∙ c.requires.kind

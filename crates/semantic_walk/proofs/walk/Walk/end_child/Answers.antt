@@ -1,4 +1,4 @@
-use Rattle.std.proofs.Common.{◌<◌, ◌≤◌, IfSome, length, ap, subst, ◌∙◌}
+use Rattle.std.proofs.Common.{◌<◌, ◌≤◌, IfSome, length, sym, ap, subst, ◌∙◌}
 use Rattle.semantic_syntax.specs.Counts.{raised}
 use Rattle.semantic_syntax.proofs.Results.{on_err}
 use Rattle.semantic_tree.specs.Children.{forest_of}
@@ -9,21 +9,21 @@ use Rattle.semantic_walk.proofs.TurnEnds.{ended_some}
 use Rattle.semantic_walk.proofs.walk.Walk.end_child.Goals as goal
 
 pub returns-in_ok-end_header_behind-in-Some-clause-ends : goal.returns-in_ok-end_header_behind-in-Some-clause-ends
-returns-in_ok-end_header_behind-in-Some-clause-ends g c = λ ds p own start same stands holds.
-    ended_some ds c.args.self.now c.args.turn.now p c.args.parent same c.args.role (forest_of c.args.rest.now) start own stands holds c.in-Some.own c.in-Some.is _ _
+returns-in_ok-end_header_behind-in-Some-clause-ends g c = λ ds p own start stands holds.
+    ended_some ds c.args.self.now c.args.turn.now p c.args.turn.now.doings (sym stands.doings) c.args.role (forest_of c.args.rest.now) start own stands holds c.in-Some.own c.in-Some.is _ _
     c.in_ok-end_header_behind-in-Some.ensures.made c.close_behind.ensures.made
 
 pub returns-in_ok-end_header_behind-in-Some-clause-cost : goal.returns-in_ok-end_header_behind-in-Some-clause-cost
-returns-in_ok-end_header_behind-in-Some-clause-cost g c = λ ds p own start same stands holds.
+returns-in_ok-end_header_behind-in-Some-clause-cost g c = λ ds p own start stands holds.
     c.in_ok-end_header_behind-in-Some.ensures.cost
     ∙ ap (raised c.args.steps.now)
-    (asked_some ds c.args.self.now.made c.args.turn.now p c.args.parent same c.args.role (forest_of c.args.rest.now) start own stands holds c.in-Some.own c.in-Some.is)
+    (asked_some ds c.args.self.now.made c.args.turn.now p c.args.turn.now.doings (sym stands.doings) c.args.role (forest_of c.args.rest.now) start own stands holds c.in-Some.own c.in-Some.is)
 
 pub returns-in_err-end_header_behind-in-Some-clause-given_up : goal.returns-in_err-end_header_behind-in-Some-clause-given_up
-returns-in_err-end_header_behind-in-Some-clause-given_up g c = λ ds p own start same stands holds.
+returns-in_err-end_header_behind-in-Some-clause-given_up g c = λ ds p own start stands holds.
     on_err c.from_residual.result
     (subst (λ n. c.end_header_behind.new.steps ≤ raised c.args.steps.now n)
-    (asked_some ds c.args.self.now.made c.args.turn.now p c.args.parent same c.args.role (forest_of c.args.rest.now) start own stands holds c.in-Some.own c.in-Some.is)
+    (asked_some ds c.args.self.now.made c.args.turn.now p c.args.turn.now.doings (sym stands.doings) c.args.role (forest_of c.args.rest.now) start own stands holds c.in-Some.own c.in-Some.is)
     c.in_err-end_header_behind-in-Some.ensures.given_up)
 
 pub end_header_behind-requires-clause-scope : goal.end_header_behind-requires-clause-scope

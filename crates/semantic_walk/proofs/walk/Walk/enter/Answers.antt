@@ -1,33 +1,30 @@
-use Rattle.std.proofs.Common.{◌≡◌, false, cond, length, refl, sym, ap, ◌∙◌, arith}
-use Rattle.semantic_kinds.specs.declared.kind.AstType.TheVariants as kind
-use Rattle.semantic_tree.specs.Views.{is}
-use Rattle.semantic_walk.specs.Walker.{Walker, referring}
+use Rattle.std.proofs.Common.{◌≡◌, [], ◌∷◌, ◌++◌, false, length, sym, ap, ◌∙◌, arith}
 use Rattle.node_rules.specs.EvenKinds.{acts_on_entering}
-use Rattle.semantic_walk.proofs.RoomAt.{ids_entered}
-use Rattle.semantic_walk.proofs.EnterSteps.{enters, stands_in, notes_last, enters_quietly}
-use Rattle.semantic_walk.proofs.TurnEnds.{on_ok}
+use Rattle.semantic_walk.specs.Walker.{Walker}
+use Rattle.semantic_walk.proofs.RoomAt.{ids_kept}
+use Rattle.semantic_walk.proofs.EnterSteps.{enters_quietly}
 use Rattle.semantic_walk.proofs.walk.Walk.enter.Goals as goal
 
-pub note_reference-requires : goal.note_reference-requires
-note_reference-requires c = omega (arith, c.requires.references, ap (λ (v : Walker). length v.made.tables.references) c.in_ok-step_to.ensures.made)
+pub step_to-requires : goal.step_to-requires
+step_to-requires c = c.requires.kind
 
-pub declare-requires : goal.declare-requires
-declare-requires c = λ outside.
-    ids_entered c.args.self.now c.step_to.new.self c.note_reference.new.self c.note_eval.new.self c.args.kind.node.now c.in_ok-step_to.ensures.made c.in_ok-note_reference.ensures.made c.note_eval.ensures.made (c.requires.names outside)
+pub act_on_entering-requires-clause-references : goal.act_on_entering-requires-clause-references
+act_on_entering-requires-clause-references c = omega (arith, c.requires.ids.references, ap (λ (v : Walker). length v.made.tables.references) c.in_ok-step_to.ensures.made)
 
-pub returns-clause-walks : goal.returns-clause-walks
-returns-clause-walks c = λ ds p e comes shown.
+pub act_on_entering-requires-clause-ids : goal.act_on_entering-requires-clause-ids
+act_on_entering-requires-clause-ids c = λ outside.
+    let w = c.args.self.now in
     let node = c.args.kind.node.now in
-    let last : c.declare.new.self ≡ stands_in ds c.args.self.now p comes shown =
-    enters ds c.args.self.now p comes shown node c.note_reference.new.self c.note_eval.new.self c.declare.new.self e
-    (c.in_ok-note_reference.ensures.made ∙ ap (λ (v : Walker). cond (is kind.IdentifierReference node) (referring v node) v) c.in_ok-step_to.ensures.made)
-    c.note_eval.ensures.made (λ within there. c.in_ok-declare.ensures.entering ds p e refl within there) in
-    on_ok c.note.result c.note.ensures.made (λ made. notes_last ds c.args.self.now p comes shown node c.declare.new.self c.note.new.self e last made)
+    ids_kept (record w { path = w.path ++ node ∷ [] }) c.step_to.new.self node (ap (λ (v : Walker). length v.made.tables.symbols) c.in_ok-step_to.ensures.made) (ap (λ (v : Walker). v.path) c.in_ok-step_to.ensures.made) (c.requires.ids.names outside)
+
+pub returns-then-acts_on_entering-clause-walks : goal.returns-then-acts_on_entering-clause-walks
+returns-then-acts_on_entering-clause-walks c = λ ds p e comes shown.
+    c.act_on_entering.ensures.walks ds c.args.self.now p e comes shown c.in_ok-step_to.ensures.made
 
 -- where nothing acts on entering, the walk has but stepped to the node
-pub returns-then-not-acts_on_entering-clause-walks : goal.returns-then-not-acts_on_entering-clause-walks
-returns-then-not-acts_on_entering-clause-walks c = λ ds p e comes shown.
+pub returns-else-acts_on_entering-clause-walks : goal.returns-else-acts_on_entering-clause-walks
+returns-else-acts_on_entering-clause-walks c = λ ds p e comes shown.
     let node = c.args.kind.node.now in
     let quiet : acts_on_entering node.kind ≡ false =
-    ap acts_on_entering (sym c.ty.ensures) ∙ sym c.acts_on_entering.ensures ∙ c.if-not-acts_on_entering.true in
+    ap acts_on_entering (sym c.requires.kind) ∙ sym c.acts_on_entering.ensures ∙ c.if-acts_on_entering.false in
     enters_quietly ds c.args.self.now p comes shown node c.step_to.new.self e quiet c.in_ok-step_to.ensures.made

@@ -1,20 +1,20 @@
-use Rattle.std.proofs.Common.{◌≡◌, ◌≤◌, ℕ, List, false, Option, OnOk, OnErr, sym, ap, subst, ◌∙◌}
+use Rattle.std.proofs.Common.{◌≡◌, ◌≤◌, ℕ, Option, OnOk, OnErr, ap, subst, ◌∙◌}
 use Rattle.std.proofs.lemmas.Result.{on_ok_weaker}
 use Rattle.semantic_syntax.specs.Counts.{raised}
 use Rattle.semantic_tree.specs.Children.{forest_of}
 use Rattle.semantic_model.specs.Place.{Place, OpenScope}
-use Rattle.semantic_model.specs.Step.{Step, ending_after}
+use Rattle.semantic_kinds.specs.declared.kind.AstType.{AstType}
+use Rattle.semantic_model.specs.Cursor.{cursor_behind}
+use Rattle.semantic_model.specs.Step.{ending_after}
 use Rattle.walk_model.specs.WalkState.{WalkState}
 use Rattle.walk_model.specs.Waits.{HoldsAt}
 use Rattle.walk_model.specs.Probes.{probes_of_steps}
-use Rattle.walk_model.proofs.asking.StepSums.{raised_none}
-use Rattle.node_rules.specs.EvenKinds.{acts_between}
+use Rattle.walk_model.specs.Walks.{after_all}
 use Rattle.table_building.proofs.Growing.{goes-trans, grows-trans}
 use Rattle.semantic_walk.specs.Walker.{Walker}
 use Rattle.semantic_walk.proofs.Going.{turn-goes}
 use Rattle.semantic_walk.proofs.walk.Walk.finish_child.Given as given
-use Rattle.semantic_walk.proofs.EvenNodes.{ends_alike, none_ends}
-use Rattle.semantic_walk.proofs.Visiting.{held_behind, ends_behind}
+use Rattle.semantic_walk.proofs.Visiting.{behind_child, held_behind, ends_behind}
 use Rattle.semantic_walk.proofs.walk.Walk.finish_child.Goals as goal
 
 module _ (g : given.Over) (c : goal.After-end_child g) where
@@ -25,38 +25,27 @@ module _ (g : given.Over) (c : goal.After-end_child g) where
   -- so the header is kept
   held : (p : Place) (own : Option OpenScope) (start : ℕ) → HoldsAt c.args.self.now.made own start → HoldsAt c.turn_cursor.new.self.made own start
   held p own start holds =
-      held_behind p own start c.args.parent c.args.role c.args.turn.now c.args.before.bits c.args.self.now c.come_back.new.self c.turn_cursor.new.self c.come_back.ensures.made c.turn_cursor.ensures.made holds
+      held_behind p own start c.args.turn.now.doings c.args.role c.args.turn.now c.args.before.bits c.args.self.now c.come_back.new.self c.turn_cursor.new.self c.come_back.ensures.made c.turn_cursor.ensures.made holds
 
-pub returns-then-turn-clause-ends : goal.returns-then-turn-clause-ends
-returns-then-turn-clause-ends g c = λ ds p own start kind turn holds.
+pub returns-clause-ends : goal.returns-clause-ends
+returns-clause-ends g c = λ ds p own start turn holds.
     on_ok_weaker c.end_child.result
-    (λ ended. ends_behind p own start c.args.parent c.args.role c.args.turn.now c.args.before.bits c.args.self.now c.come_back.new.self c.turn_cursor.new.self ds (forest_of c.args.rest.now) c.end_child.new.self turn
-    c.come_back.ensures.made c.turn_cursor.ensures.made ended)
-    (c.end_child.ensures.ends ds p own start kind turn (held g c p own start holds))
+    (λ ended. ends_behind p own start c.args.turn.now.doings c.args.role c.args.turn.now c.args.before.bits c.args.self.now c.come_back.new.self c.turn_cursor.new.self ds (forest_of c.args.rest.now) c.end_child.new.self turn
+    c.come_back.ensures.made c.turn_cursor.ensures.made ended
+    ∙ ap (λ (k : AstType). behind_child c.args.self.now (after_all ds c.args.self.now.made (ending_after p c.args.role own (forest_of c.args.rest.now))) p (cursor_behind k c.args.role c.args.before.bits c.args.self.now.cursor)) turn.doings)
+    (c.end_child.ensures.ends ds p own start turn (held g c p own start holds))
 
-pub returns-then-turn-clause-cost : goal.returns-then-turn-clause-cost
-returns-then-turn-clause-cost g c = λ ds p own start kind turn holds.
+pub returns-clause-cost : goal.returns-clause-cost
+returns-clause-cost g c = λ ds p own start turn holds.
     subst (λ (made : WalkState). OnOk c.end_child.result (c.end_child.new.steps ≡ raised c.args.steps.now (probes_of_steps ds made (ending_after p c.args.role own (forest_of c.args.rest.now)))))
     (made_is g c)
-    (c.end_child.ensures.cost ds p own start kind turn (held g c p own start holds))
+    (c.end_child.ensures.cost ds p own start turn (held g c p own start holds))
 
-pub returns-then-turn-clause-given_up : goal.returns-then-turn-clause-given_up
-returns-then-turn-clause-given_up g c = λ ds p own start kind turn holds.
+pub returns-clause-given_up : goal.returns-clause-given_up
+returns-clause-given_up g c = λ ds p own start turn holds.
     subst (λ (made : WalkState). OnErr c.end_child.result (c.end_child.new.steps ≤ raised c.args.steps.now (probes_of_steps ds made (ending_after p c.args.role own (forest_of c.args.rest.now)))))
     (made_is g c)
-    (c.end_child.ensures.given_up ds p own start kind turn (held g c p own start holds))
-
--- where nothing acts round a child, the walk has but come back
-pub returns-else-turn-clause-ends : goal.returns-else-turn-clause-ends
-returns-else-turn-clause-ends g c = λ ds p own start kind turn holds.
-    ends_alike ds c.args.self.now c.come_back.new.self c.args.turn.now p own start c.args.before.bits c.args.parent c.args.role (forest_of c.args.rest.now)
-    kind c.if-turn.false turn c.come_back.ensures.made
-
-pub returns-else-turn-clause-cost : goal.returns-else-turn-clause-cost
-returns-else-turn-clause-cost g c = λ ds p own start kind turn holds.
-    let even : acts_between p.node.kind ≡ false = sym turn.acts ∙ c.if-turn.false in
-    sym (raised_none c.args.steps.now)
-    ∙ ap (λ (xs : List Step). raised c.args.steps.now (probes_of_steps ds c.args.self.now.made xs)) (sym (none_ends p even c.args.role own (forest_of c.args.rest.now)))
+    (c.end_child.ensures.given_up ds p own start turn (held g c p own start holds))
 
 pub come_back-requires : goal.come_back-requires
 come_back-requires g c = c.requires
@@ -64,20 +53,14 @@ come_back-requires g c = c.requires
 pub end_child-requires : goal.end_child-requires
 end_child-requires g c = turn-goes c.args.self.now.made c.turn_cursor.new.self.made c.args.turn.now (goes-trans c.args.self.now.made c.come_back.new.self.made c.turn_cursor.new.self.made c.come_back.ensures.goes c.turn_cursor.ensures.goes) c.requires
 
-pub returns-then-turn-clause-stands : goal.returns-then-turn-clause-stands
-returns-then-turn-clause-stands g c = c.end_child.ensures.stands
+pub returns-clause-stands : goal.returns-clause-stands
+returns-clause-stands g c = c.end_child.ensures.stands
 
-pub returns-then-turn-clause-risen : goal.returns-then-turn-clause-risen
-returns-then-turn-clause-risen g c = c.end_child.ensures.risen
+pub returns-clause-risen : goal.returns-clause-risen
+returns-clause-risen g c = c.end_child.ensures.risen
 
-pub returns-then-turn-clause-grows : goal.returns-then-turn-clause-grows
-returns-then-turn-clause-grows g c =
+pub returns-clause-grows : goal.returns-clause-grows
+returns-clause-grows g c =
     on_ok_weaker c.end_child.result
     (grows-trans c.args.self.now.made.tables c.turn_cursor.new.self.made.tables c.end_child.new.self.made.tables (goes-trans c.args.self.now.made c.come_back.new.self.made c.turn_cursor.new.self.made c.come_back.ensures.goes c.turn_cursor.ensures.goes).tables)
     c.end_child.ensures.grows
-
-pub returns-else-turn-clause-stands : goal.returns-else-turn-clause-stands
-returns-else-turn-clause-stands g c = turn-goes c.args.self.now.made c.come_back.new.self.made c.args.turn.now c.come_back.ensures.goes c.requires
-
-pub returns-else-turn-clause-grows : goal.returns-else-turn-clause-grows
-returns-else-turn-clause-grows g c = c.come_back.ensures.goes.tables

@@ -8,5 +8,5 @@ pub returns-else-is_noted_behind-clause-made : goal.returns-else-is_noted_behind
 returns-else-is_noted_behind-clause-made c =
     let w : Walker = c.args.self.now in
     let node = c.args.kind.node.now in
-    let quiet : is_noted_behind node.kind ≡ false = ap is_noted_behind (sym c.ty.ensures) ∙ sym c.is_noted_behind.ensures ∙ c.if-is_noted_behind.false in
+    let quiet : is_noted_behind node.kind ≡ false = ap is_noted_behind (sym c.requires) ∙ sym c.is_noted_behind.ensures ∙ c.if-is_noted_behind.false in
     ap (λ ns. record w { notes = ns }) (sym (leaves_nothing node w.notes quiet))

@@ -25,21 +25,21 @@ module _ (t : Tables) (turn : Turn) (k : AstType) (r : Role) where
 pub returns-in_default-clause-value : goal.returns-in_default-clause-value
 returns-in_default-clause-value c =
     elim c.in_default.branch [
-      | in_default-via-in-Some+else-is_inside w ↦ ap (λ b. own_or b c.args.turn.now.own c.args.turn.now.outer) (sym w.if-is_inside.false ∙ w.is_inside.ensures) ∙ plain c.args.self.now.made.tables c.args.turn.now c.args.parent c.args.role (sym c.is_parameter_decorator.ensures ∙ c.if-is_parameter_decorator.false)
-      | in_default-via-in_default w ↦ sym (ap (λ o. own_or (is_inside c.args.parent c.args.role) o c.args.turn.now.outer) w.in_default.is ∙ none_own (is_inside c.args.parent c.args.role) c.args.turn.now.outer) ∙ plain c.args.self.now.made.tables c.args.turn.now c.args.parent c.args.role (sym c.is_parameter_decorator.ensures ∙ c.if-is_parameter_decorator.false)
+      | in_default-via-in-Some+else-is_inside w ↦ ap (λ b. own_or b c.args.turn.now.own c.args.turn.now.outer) (sym w.if-is_inside.false ∙ w.is_inside.ensures) ∙ plain c.args.self.now.made.tables c.args.turn.now c.args.turn.now.doings c.args.role (sym (c.is_parameter_decorator.ensures ∙ ap (λ k. is_parameter_decorator k c.args.role) c.kind.ensures) ∙ c.if-is_parameter_decorator.false)
+      | in_default-via-in_default w ↦ sym (ap (λ o. own_or (is_inside c.args.turn.now.doings c.args.role) o c.args.turn.now.outer) w.in_default.is ∙ none_own (is_inside c.args.turn.now.doings c.args.role) c.args.turn.now.outer) ∙ plain c.args.self.now.made.tables c.args.turn.now c.args.turn.now.doings c.args.role (sym (c.is_parameter_decorator.ensures ∙ ap (λ k. is_parameter_decorator k c.args.role) c.kind.ensures) ∙ c.if-is_parameter_decorator.false)
     ]
 
 pub returns-in-Some-clause-value : goal.returns-in-Some-clause-value
 returns-in-Some-clause-value c =
     ap (λ b. own_or b (Some c.in-Some.own) c.args.turn.now.outer) (sym c.if-is_inside.true ∙ c.is_inside.ensures)
-    ∙ ap (λ o. own_or (is_inside c.args.parent c.args.role) o c.args.turn.now.outer) (sym c.in-Some.is)
-    ∙ plain c.args.self.now.made.tables c.args.turn.now c.args.parent c.args.role (sym c.is_parameter_decorator.ensures ∙ c.if-is_parameter_decorator.false)
+    ∙ ap (λ o. own_or (is_inside c.args.turn.now.doings c.args.role) o c.args.turn.now.outer) (sym c.in-Some.is)
+    ∙ plain c.args.self.now.made.tables c.args.turn.now c.args.turn.now.doings c.args.role (sym (c.is_parameter_decorator.ensures ∙ ap (λ k. is_parameter_decorator k c.args.role) c.kind.ensures) ∙ c.if-is_parameter_decorator.false)
 
 pub returns-then-is_parameter_decorator-clause-value : goal.returns-then-is_parameter_decorator-clause-value
 returns-then-is_parameter_decorator-clause-value c =
     c.around.ensures.value
     ∙ ap (λ (w : Walker). unwrap_or (scope_of w.made.tables c.args.turn.now.outer).parent c.args.turn.now.outer) c.self.view_is
-    ∙ decorated c.args.self.now.made.tables c.args.turn.now c.args.parent c.args.role (sym c.is_parameter_decorator.ensures ∙ c.if-is_parameter_decorator.true)
+    ∙ decorated c.args.self.now.made.tables c.args.turn.now c.args.turn.now.doings c.args.role (sym (c.is_parameter_decorator.ensures ∙ ap (λ k. is_parameter_decorator k c.args.role) c.kind.ensures) ∙ c.if-is_parameter_decorator.true)
 
 pub returns-in_default-clause-within : goal.returns-in_default-clause-within
 returns-in_default-clause-within c = c.requires.outer
