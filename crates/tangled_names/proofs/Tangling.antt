@@ -1,5 +1,5 @@
 -- The loops that find reasons and tangled names.
-use Rattle.std.proofs.Common.{◌≡◌, ℕ, ◌+◌, ◌<◌, ◌≤◌, List, [], ◌∷◌, ◌++◌, Bool, true, false, cond, ◌&&◌, ◌||◌, not, filter, length, drop, get_or, refl, sym, ap, ◌∙◌, append_assoc, append-nil}
+use Rattle.std.proofs.Common.{◌≡◌, ℕ, ◌+◌, ◌<◌, ◌≤◌, List, [], ◌∷◌, ◌++◌, Bool, true, false, cond, ◌&&◌, ◌||◌, not, filter, length, drop, get_or, Result, Ok, Err, IfOk, refl, sym, ap, ◌∙◌, append_assoc, append-nil}
 use Rattle.std.specs.Str.{bytes_eq}
 use Rattle.std.proofs.lemmas.List.{at_drop_more, at_drop_all}
 use Rattle.semantic_syntax.specs.Reading.{no_symbol, symbol_of}
@@ -105,6 +105,10 @@ module _ (f : NameFacts) (s : SourceType) (ms : List Mention) (t : Tables) where
 
   pub found_same : FactsHold f s ms t → tangles_from (λ (x : Name). filter (λ (r : Reason). told_by f s t r x) all_reasons) (λ x. false) 0 t.symbols ≡ tangles_in s ms t
   found_same tells = λ i. tangles_from (λ (x : Name). filter (λ (r : Reason). tells r x i) all_reasons) (λ x. false) 0 t.symbols
+
+pub if_ok_same : {T E : Type 0} (r : Result T E) (a b : T) → a ≡ b → IfOk r (λ x. x ≡ a) → IfOk r (λ x. x ≡ b)
+if_ok_same (Ok x) a b is h = h ∙ is
+if_ok_same (Err e) a b is h = h
 
 pub all_same : (s s' : SourceType) (ms ms' : List Mention) (t t' : Tables) → s ≡ s' → ms ≡ ms' → t ≡ t' → tangles_in s ms t ≡ tangles_in s' ms' t'
 all_same s s' ms ms' t t' a b c = λ i. tangles_in (a i) (b i) (c i)

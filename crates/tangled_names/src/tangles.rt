@@ -216,6 +216,5 @@ pub fn tangled_names(
 {
     let pass = MentionPass::over(alloc, program)?;
     let facts = NameFacts::of(alloc, pass.as_slice(), scoping)?;
-    let found = tangles_by(alloc, &facts, program.source_type(), scoping)?;
-    Ok(found)
+    tangles_by(alloc, &facts, program.source_type(), scoping)
 }
