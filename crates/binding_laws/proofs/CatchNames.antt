@@ -38,6 +38,7 @@ use Rattle.semantic_model.proofs.steps.EachStep.{EachStep, each_of_node, each_of
 use Rattle.semantic_model.proofs.steps.Turn.{Turn, turn_at}
 use Rattle.semantic_model.proofs.steps.TurnCases.{opening_case, ending_case, last_case}
 use Rattle.walk_model.proofs.places.Shapes.{holds_below, tree_holds}
+use Rattle.binding_laws.proofs.SmallLaws.{implied}
 
 -- of a node that is no such parameter no name is so
 abbrev pub IsNotCaught : Declaration → Type 0
@@ -144,14 +145,10 @@ unfolding holds_part
 all_parts kind.Program text = refl
 all_parts _ text = refl
 
-not_or : (a b : Bool) → (not a || b) ≡ true → a ≡ true → b ≡ true
-not_or true b h e = h
-not_or false b h e = absurd cc
-
 part_stands : (k : AstType) (part : Part) (k2 : AstType) (text : List ℕ) → holds_part k text part ≡ true → is_of part.class k2 text ≡ true → stands_in_clause k part.role k2 text ≡ true
 unfolding holds_part
 part_stands k part k2 text h i = elim (cases_Bool (same_kind k2 kind.CatchParameter)) [
-  | inl e ↦ rw e (not_or (is_of part.class kind.CatchParameter text) (same_kind k kind.CatchClause) h (subst (λ q. is_of part.class q text ≡ true) (kind_is k2 kind.CatchParameter e) i))
+  | inl e ↦ rw e (implied (is_of part.class kind.CatchParameter text) (same_kind k kind.CatchClause) h (subst (λ q. is_of part.class q text ≡ true) (kind_is k2 kind.CatchParameter e) i))
   | inr e ↦ rw e refl
 ]
 
@@ -203,7 +200,7 @@ below p own n cursor (tree r k span text marks under id after) o h =
     each_of_turn IsCatchStep turn (record {
       before = opening_case (EachStep IsCatchStep) p r own n tt (tt, tt);
       whole = each_of_node IsCatchStep turn.child turn.below
-          (λ e. child_stands p turn.scope cursor r node (is_open_inside p r own n) scope_is (kind_is p.node.kind kind.CatchClause (not_or (same_kind k kind.CatchParameter) (same_kind p.node.kind kind.CatchClause) here (ap (λ m. same_kind m kind.CatchParameter) e))))
+          (λ e. child_stands p turn.scope cursor r node (is_open_inside p r own n) scope_is (kind_is p.node.kind kind.CatchClause (implied (same_kind k kind.CatchParameter) (same_kind p.node.kind kind.CatchClause) here (ap (λ m. same_kind m kind.CatchParameter) e))))
           (below turn.child None turn.next turn.inner under tt (and_first (holds_below stands_in_clause k under) _ rest)) tt;
       behind = ending_case (EachStep IsCatchStep) p r turn.scope after tt (λ s. (tt, tt)) (λ s. (tt, tt)) (λ s. (tt, (tt, tt)));
       others = below p turn.scope turn.rest turn.past after scope_is (and_second (holds_below stands_in_clause k under) _ rest);

@@ -15,6 +15,7 @@ use Rattle.walk_model.proofs.headers.Sides.{ArePassedOn}
 use Rattle.walk_model.proofs.headers.NoStatements.{is_closed}
 use Rattle.walk_model.proofs.headers.Headed.{VarAbove, AllMatch}
 use Rattle.walk_model.proofs.headers.TouchedScopes.{Touches, ChainOn, AllTouch, way_touches, IsByVar, AllByVar}
+use Rattle.binding_laws.proofs.DeclaredMade.{placed_naming}
 use Rattle.binding_laws.specs.SeenDeclarations.{is_own_name, stands_before_body}
 use Rattle.binding_laws.proofs.OwnNames.{IsOther, AllOther, IsOwnName}
 
@@ -77,19 +78,8 @@ elsewhere c d n = elim (eqb_tells d.route.target.number c) [ inl e ↦ absurd (n
 in_body : (c : ℕ) (d : Declaration) → (d.route.target.number ≡ c → d.route.target.in_header ≡ false) → IsOther d → stands_before_body c d ≡ false
 in_body c d h o = elim (eqb_tells d.route.target.number c) [ inl e ↦ rw (e.0, h e.1, o) refl | inr e ↦ rw e.0 refl ]
 
--- what is placed keeps what it names
-placed_names : (how : How) (ds : List Declaration) (d : Declaration) → (placed_by how ds d).naming ≡ d.naming
-placed_names plain ds d = refl
-placed_names hoisted ds d = refl
-placed_names caught ds d = refl
-placed_names moved ds d = by (is_barred ds d (outside d.route.passed))
-  where
-    by : (b : Bool) → (if b then staying_declaration d else d).naming ≡ d.naming
-    by true = refl
-    by false = refl
-
 pub placed_other : (ds : List Declaration) (d : Declaration) → IsOther d → IsOther (placed ds d)
-placed_other ds d h = subst (λ (n : Naming). is_own_name (record d { naming = n }) ≡ false) (sym (placed_names d.how ds d)) h
+placed_other ds d h = subst (λ (n : Naming). is_own_name (record d { naming = n }) ≡ false) (sym (placed_naming d.how ds d)) h
 
 match_of : (aw : List ℕ) (xs : List OpenScope) (t : OpenScope) (rest : List OpenScope) → AllMatch aw (xs ++ t ∷ rest) → t.in_header ≡ contains aw t.number
 match_of aw [] t rest h = h.0

@@ -159,7 +159,7 @@ entered_before c n aw ds p (inl v) k s m i = elim (cases_Bool (is kind.BindingId
   | inr e ↦ entering_before c n aw p ds (declared_on_entering p) (entering_goes p.node.kind p v) (entering_by_var p.node.kind p refl) (solid n p.chain v k) (sheltered_at c aw p i s) (solid_match aw p.chain v (m e)) i
 ]
 
-body_open : (p : Place) → is_catch_body p ≡ true → p.node.kind ≡ kind.BlockStatement
+pub body_open : (p : Place) → is_catch_body p ≡ true → p.node.kind ≡ kind.BlockStatement
 body_open p h =
     let b : is kind.BlockStatement p.node ≡ true = and_first (is kind.BlockStatement p.node) (same_role p.role role.Body) (and_first (is kind.BlockStatement p.node && same_role p.role role.Body) (parent_holds (is kind.CatchClause) p.path) h) in
     kind_is p.node.kind kind.BlockStatement b

@@ -53,7 +53,7 @@ rising_steps p own n cursor (tree r kd span text marks below id after) k e =
     rising-append k mid hi (turn.before ++ turn.whole ++ turn.behind) turn.others
     (rising-append k mid mid (turn.before ++ turn.whole) turn.behind (rising-append k k mid turn.before turn.whole before whole) behind) others
 
-entered_place : (p q : Place) → entering p ≡ entering q → p ≡ q
+pub entered_place : (p q : Place) → entering p ≡ entering q → p ≡ q
 entered_place p q e = cc
 
 beyond : (lo hi : ℕ) (ss : List Step) (q : Place) → Rising lo hi ss → Among (entering q) ss → lo ≤ q.node.node_id

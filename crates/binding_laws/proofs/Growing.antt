@@ -84,7 +84,7 @@ grown_declare st c d (Some z) = record {
   ];
 }
 
-against_symbols : (st : State) (d : Declaration) (ss : List ℕ) → (against_all st d ss).symbols ≡ st.symbols
+pub against_symbols : (st : State) (d : Declaration) (ss : List ℕ) → (against_all st d ss).symbols ≡ st.symbols
 against_symbols st d [] = refl
 against_symbols st d (s ∷ ss) = against_symbols (against st d s) d ss
 

@@ -27,23 +27,17 @@ use Rattle.walk_model.proofs.headers.OtherSide.{Keeps, run_keeps, capped, capped
 use Rattle.walk_model.proofs.headers.TouchedScopes.{Touches}
 use Rattle.binding_laws.specs.SeenDeclarations.{stands_before_body, is_before_body, seen_alone, with_declaration, bound_by_all}
 use Rattle.binding_laws.proofs.CutEvents.{is_scope, IsSimple, InHeader, IsBefore, IsBehind, AllBehind, Cut, no_end, ended, not_yet}
+use Rattle.binding_laws.proofs.ListLaws.{filter_push}
 use Rattle.binding_laws.proofs.Unremembered.{act_remembers}
 
--- a list to which one entry is added
-filter_push : (test : Made → Bool) (ms : List Made) (m : Made) → filter test (ms ++ m ∷ []) ≡ cond (test m) (filter test ms ++ m ∷ []) (filter test ms)
-filter_push test [] m = refl
-filter_push test (y ∷ ms) m = one (test y) (test m) (filter test (ms ++ m ∷ [])) (filter test ms) (filter_push test ms m)
-  where
-    one : (a b : Bool) (us vs : List Made) → us ≡ cond b (vs ++ m ∷ []) vs → cond a (y ∷ us) us ≡ cond b (cond a (y ∷ vs) vs ++ m ∷ []) (cond a (y ∷ vs) vs)
-    one true true us vs e = ap (λ l. y ∷ l) e
-    one true false us vs e = ap (λ l. y ∷ l) e
-    one false true us vs e = e
-    one false false us vs e = e
+pub or_none : (o : Option ℕ) → or_else o None ≡ o
+or_none None = refl
+or_none (Some s) = refl
 
-abbrev seen_with : ℕ → ℕ → Option Seen
+abbrev pub seen_with : ℕ → ℕ → Option Seen
 seen_with y flags = Some (record { symbol = y; flags = flags })
 
-abbrev with_or : ℕ → ℕ → Made → Bool → Option Seen
+abbrev pub with_or : ℕ → ℕ → Made → Bool → Option Seen
 with_or y flags m t = Some (cond t (record { symbol = y; flags = flags }) (seen_alone m))
 
 module _ (c : ℕ) where
@@ -190,10 +184,6 @@ module _ (c : ℕ) where
         where
           apart : s ≡ r → ⊥
           apart i = n (one_name st.symbols r x d.naming.name (bound_name table st x r w f) (subst (λ z. HasName st.symbols z d.naming.name) i (bound_name table st d.naming.name s w g)))
-
-  or_none : (o : Option ℕ) → or_else o None ≡ o
-  or_none None = refl
-  or_none (Some s) = refl
 
   -- a declaration in the scope
   plain_counts : (table : List (Option ℕ)) (st : State) (d : Declaration) → stands_before_body c d ≡ true → IsSound st → Sound table st → IsHeader st → IsCounted (declare_in st c d (found st c d.naming.name))

@@ -1,19 +1,15 @@
 -- Along a program a scope keeps the symbol of its name.
-use Rattle.std.proofs.Common.{◌≡◌, ℕ, suc, ◌<◌, ◌≤◌, List, [], ◌∷◌, ◌++◌, Option, Some, None, Bool, true, false, cond, ◌&&◌, ◌==◌, bytes_eq, ◌⊎◌, inl, inr, refl, sym, ap, subst, ◌∙◌, length, flat_map, arith}
+use Rattle.std.proofs.Common.{◌≡◌, ℕ, suc, ◌<◌, ◌≤◌, List, [], ◌∷◌, ◌++◌, Option, Some, None, Bool, true, false, cond, ◌==◌, bytes_eq, ◌⊎◌, inl, inr, refl, sym, ap, subst, ◌∙◌, length, flat_map, arith}
 use Rattle.std.specs.Prelude.{slice_get}
 use Rattle.std.proofs.lemmas.Bool.{and_left, and_right, cases_Bool}
 use Rattle.std.proofs.lemmas.Bool.Decides.{eqb_tells, Decides-ltb}
 use Rattle.std.proofs.lemmas.List.{length-append}
-use Rattle.semantic_kinds.specs.Roles.{same_role}
 use Rattle.semantic_kinds.specs.declared.kind.AstType.{AstType}
 use Rattle.semantic_kinds.specs.declared.kind.AstType.TheVariants as kind
-use Rattle.semantic_kinds.specs.declared.role.Role.TheVariants as role
-use Rattle.semantic_syntax.proofs.Truth.{and_first}
 use Rattle.semantic_syntax.specs.Sets.{meets}
 use Rattle.semantic_syntax.specs.Tables.{Name}
 use Rattle.semantic_tree.specs.Faults.{first_fault}
 use Rattle.semantic_tree.specs.Tree.{Tree}
-use Rattle.semantic_tree.specs.Views.{is}
 use Rattle.semantic_model.specs.Binder.{declared_inside, declared_on_entering, declared_on_opening}
 use Rattle.semantic_model.specs.Binding.{get, put, bound_by}
 use Rattle.semantic_model.specs.Declaration.{How, plain, hoisted, moved, caught, Declaration}
@@ -21,14 +17,13 @@ use Rattle.semantic_model.specs.Entries.{Among}
 use Rattle.semantic_model.specs.Event.{Event, declares, takes_over, ends_header, is_catch_body, taken_over, placed, declares_all, events_of, written_declarations, events, declarations}
 use Rattle.semantic_model.specs.Fold.{State, Made, start, make, found, or_else, unless_expression, declare_in, flags_of, flags_or_none, new_symbol}
 use Rattle.semantic_model.specs.Hoist.{declare_by, act, run}
-use Rattle.semantic_model.specs.Place.{Place, OpenScope, innermost, parent_holds}
+use Rattle.semantic_model.specs.Place.{Place, OpenScope, innermost}
 use Rattle.semantic_model.specs.Step.{Step, entering, opening, header_ending, closing, leaving, steps}
 use Rattle.semantic_model.proofs.fold.EachDeclared.{EachDeclared}
 use Rattle.semantic_model.proofs.alone.Homecoming.{takes, AllHomed, homed}
 use Rattle.semantic_model.proofs.alone.PlacesFollowed.{followed_program}
 use Rattle.semantic_model.proofs.fold.Declared.{AllEventsIn}
 use Rattle.semantic_model.proofs.fold.Orders.{Adds, adds, HasForm, table_of, root_body, steps_in, events_in}
-use Rattle.semantic_model.proofs.form.Clauses.{kind_is}
 use Rattle.semantic_model.proofs.form.Shape.{has_form}
 use Rattle.semantic_model.proofs.lists.BindingLaws.{same_key, get-put_same, get-put_other, get_among, get-take_over_other}
 use Rattle.semantic_model.proofs.lists.Bounds.{IsSound, get_below}
@@ -47,7 +42,7 @@ use Rattle.walk_model.proofs.places.Routes.{grounded, GoesOut, AllGoOut, enterin
 use Rattle.binding_laws.specs.SeenDeclarations.{is_own_name}
 use Rattle.binding_laws.specs.OneSymbol.{first_scope, BindsIn}
 use Rattle.binding_laws.proofs.CutEvents.{IsOwnPlain, placed_other, placed_plain}
-use Rattle.binding_laws.proofs.CutSteps.{opened_plain}
+use Rattle.binding_laws.proofs.CutSteps.{opened_plain, body_open}
 use Rattle.binding_laws.proofs.KeptSymbols.{expression, IsBoundTo, Keeps, NoneBinds, IsFreeBy, IsFree, found_kept, found_other, found_within, told_push, declared_keeps}
 use Rattle.binding_laws.proofs.Settled.{IsSettled, keeps_settled, settle_run, none_goes, never_taken, events_right, homed_right, takes_past}
 use Rattle.binding_laws.proofs.OwnNames.{AllOther, IsOwnName, entering_other, own_named, class_other, key_other}
@@ -209,11 +204,6 @@ module _ (block : Bool) (c : ℕ) (x : Name) where
           not_body : c ≡ n → ⊥
           not_body e = absurd (omega (arith, l m k, i.scope, e))
 
-  body_kind : (p : Place) → is_catch_body p ≡ true → p.node.kind ≡ kind.BlockStatement
-  body_kind p h =
-      let b : is kind.BlockStatement p.node ≡ true = and_first (is kind.BlockStatement p.node) (same_role p.role role.Body) (and_first (is kind.BlockStatement p.node && same_role p.role role.Body) (parent_holds (is kind.CatchClause) p.path) h) in
-      kind_is p.node.kind kind.BlockStatement b
-
   opened_keep : (k : AstType) (p : Place) (s : OpenScope) (ds : List Declaration) (st : State) → EachDeclared (IsOwnPlain s) (declared_inside k p s) → AllFree (declares_all ds (declared_inside k p s)) → IsFresh s.number st → (s.number ≡ c → NoneBinds block c x st) → IsSound st → Keeps block c x st
       → Keeps block c x (run st (declares_all ds (declared_inside k p s)))
   opened_keep kind.Function p s ds st e f g n b h = owns_keep s ds (declared_inside kind.Function p s) st e (own_named p s) g n b h
@@ -233,7 +223,7 @@ module _ (block : Bool) (c : ℕ) (x : Name) where
 
       by : (t : Bool) → is_catch_body p ≡ t → AllFree (cond t (takes_over (innermost p.chain).number s.number ∷ []) [] ++ new) → Keeps block c x (run st (cond t (takes_over (innermost p.chain).number s.number ∷ []) [] ++ new))
       by true e g =
-          subst (λ k. Keeps block c x (run (act st (takes_over (innermost p.chain).number s.number)) (declares_all ds (declared_inside k p s)))) (sym (body_kind p e))
+          subst (λ k. Keeps block c x (run (act st (takes_over (innermost p.chain).number s.number)) (declares_all ds (declared_inside k p s)))) (sym (body_open p e))
           (take_keeps (innermost p.chain).number s.number st (r e) (λ m a. subst (λ k. first_scope m.declaration.how m.declaration < k) (sym q) (l m a)) h)
       by false e g = opened_keep p.node.kind p s ds st (opened_plain p s) g (subst (λ k. IsFresh k st) (sym q) (within_fresh n st w)) (λ i. none_below n st (sym q ∙ i) l) b h
 

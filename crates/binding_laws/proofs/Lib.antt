@@ -1,4 +1,7 @@
 pub mod Examples
+pub mod SmallLaws
+pub mod ListLaws
+pub mod DeclaredMade
 pub mod OwnNames
 pub mod Matched
 pub mod CutEvents
@@ -16,6 +19,7 @@ pub mod VarScopes
 pub mod BoundAtTop
 pub mod OneSymbolEach
 pub mod EnteredOnce
+pub mod ScopesRound
 pub mod ScopeOpeners
 pub mod ChildChains
 pub mod ReferredNodes

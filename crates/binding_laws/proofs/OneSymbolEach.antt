@@ -12,6 +12,7 @@ use Rattle.semantic_model.proofs.once.ListedUnder.{name_tells}
 use Rattle.binding_laws.specs.OneSymbol.{takes_by, NoneTakes, OneSymbolEach, ConflictsAreTold}
 use Rattle.binding_laws.proofs.KeptSteps.{end_settled}
 use Rattle.binding_laws.proofs.KeptSymbols.{IsFreeBy}
+use Rattle.binding_laws.proofs.SmallLaws.{never}
 use Rattle.binding_laws.proofs.VarScopes.{hoisted_apart, moved_apart}
 
 -- a block function of the name that begins in the scope
@@ -54,9 +55,6 @@ module _ (p : Tree) (h : first_fault p ≡ None) (c : ℕ) (x : Name) (none : No
   not_true : false ≡ true → ⊥
   not_true e = absurd cc
 
-  not_false : true ≡ false → ⊥
-  not_false e = absurd cc
-
   takes_none : (how : How) (d : Declaration) → d.how ≡ how → Among d ds → d.naming.name ≡ x → takes_by how c d ≡ false
   takes_none how d e a n = subst (λ k. takes_by k c d ≡ false) e (none d a n)
 
@@ -64,7 +62,7 @@ module _ (p : Tree) (h : first_fault p ≡ None) (c : ℕ) (x : Name) (none : No
   free_in_block : Mover c x ds → (how : How) (d : Declaration) → d.how ≡ how → Among d ds → d.naming.name ≡ x → IsFreeBy true c x how d
   free_in_block m plain d e a n = tt
   free_in_block m hoisted d e a n = (takes_none hoisted d e a n, λ z past q. hoisted_apart p h m.declaration d m.among a m.moves e past (q ∙ sym m.begins))
-  free_in_block m moved d e a n = (λ z. absurd (not_false z), λ z q. moved_apart p h m.declaration d m.among a m.moves e (q ∙ sym m.begins))
+  free_in_block m moved d e a n = (λ z. absurd (never z), λ z q. moved_apart p h m.declaration d m.among a m.moves e (q ∙ sym m.begins))
   free_in_block m caught d e a n = takes_none caught d e a n
 
   -- in any other scope

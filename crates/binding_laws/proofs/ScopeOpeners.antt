@@ -12,16 +12,17 @@ use Rattle.semantic_model.specs.Binder.{is_var, is_conditional, declared_by}
 use Rattle.semantic_model.specs.Cursor.{on_entering}
 use Rattle.semantic_model.specs.Declaration.{passed_before, first_with, route_from, outward_past}
 use Rattle.semantic_model.specs.EachStep.{EachStep}
-use Rattle.semantic_model.specs.Inside.{is_inside, is_in_header, is_parameter_decorator}
-use Rattle.semantic_model.specs.Place.{Place, OpenScope, innermost, outside}
+use Rattle.semantic_model.specs.Inside.{is_inside}
+use Rattle.semantic_model.specs.Place.{Place, OpenScope, innermost}
 use Rattle.semantic_model.specs.ScopeKind.{opened_scope}
-use Rattle.semantic_model.specs.Step.{Step, entering, opening, header_ending, closing, leaving, steps_below, steps, root_place, opening_at, scope_at, child_place, child_scopes}
+use Rattle.semantic_model.specs.Step.{Step, entering, opening, header_ending, closing, leaving, steps_below, steps, root_place, opening_at, scope_at}
 use Rattle.semantic_model.proofs.fold.EachDeclared.{EachDeclared, each_on_entering}
 use Rattle.semantic_model.proofs.steps.EachStep.{each_of_node, each_of_turn}
 use Rattle.semantic_model.proofs.steps.OpenedFrom.{OpenedFrom, OpenedRound, opened_left, opened_round}
 use Rattle.semantic_model.proofs.steps.Turn.{Turn, turn_at}
 use Rattle.semantic_model.proofs.steps.TurnCases.{opening_case, ending_case, last_case}
 use Rattle.walk_model.proofs.once.NodeIds.{AreDistinct, opener, openers_distinct, root_numbered}
+use Rattle.binding_laws.proofs.ScopesRound.{AllRound, OwnRound, child_round}
 
 -- the nodes that open the scopes, in order
 abbrev pub openers : List Step → List ℕ
@@ -33,8 +34,7 @@ module _ (table : List ℕ) where
   IsOpened s = slice_get table s.number ≡ Some s.opener
 
   abbrev pub AllOpened : List OpenScope → Type 0
-  AllOpened [] = Unit {0}
-  AllOpened (s ∷ ss) = IsOpened s × AllOpened ss
+  AllOpened chain = AllRound IsOpened chain
 
   abbrev IsOpenedAs : ℕ → Place → OpenScope → Type 0
   IsOpenedAs n p s = slice_get table n ≡ Some s.opener
@@ -46,45 +46,22 @@ module _ (table : List ℕ) where
   IsPlaceOpened (closing p s) = Unit {0}
   IsPlaceOpened (leaving p) = Unit {0}
 
-  abbrev OwnOpened : Option OpenScope → Type 0
-  OwnOpened None = Unit {0}
-  OwnOpened (Some s) = IsOpened s
-
-  own_opened : (p : Place) (r : Role) (own : Option OpenScope) (n : ℕ) → OwnOpened own → OpenedFrom IsOpenedAs n (opening_at p r own n) → OwnOpened (scope_at p r own n)
+  own_opened : (p : Place) (r : Role) (own : Option OpenScope) (n : ℕ) → OwnRound IsOpened own → OpenedFrom IsOpenedAs n (opening_at p r own n) → OwnRound IsOpened (scope_at p r own n)
   own_opened p r (Some s) n h b = h
   own_opened p r None n h b = go (is_inside p.node.kind r) b
     where
-      go : (t : Bool) → OpenedFrom IsOpenedAs n (cond t (opening p (opened_scope p n) ∷ []) []) → OwnOpened (cond t (Some (opened_scope p n)) None)
+      go : (t : Bool) → OpenedFrom IsOpenedAs n (cond t (opening p (opened_scope p n) ∷ []) []) → OwnRound IsOpened (cond t (Some (opened_scope p n)) None)
       go true q = q.0
       go false q = tt
 
-  outside_opened : (ss : List OpenScope) → AllOpened ss → AllOpened (outside ss)
-  outside_opened [] h = tt
-  outside_opened (s ∷ ss) h = h.1
-
-  within_opened : (p : Place) (r : Role) (own : Option OpenScope) → AllOpened p.chain → OwnOpened own → AllOpened (child_scopes p r own)
-  within_opened p r None a o = a
-  within_opened p r (Some s) a o = go (is_inside p.node.kind r)
-    where
-      go : (t : Bool) → AllOpened (cond t (record s { in_header = is_in_header p.node.kind r } ∷ p.chain) p.chain)
-      go true = (o, a)
-      go false = a
-
-  child_opened : (p : Place) (own : Option OpenScope) (cursor : ℕ) (r : Role) (node : Node) → AllOpened p.chain → OwnOpened own → AllOpened (child_place p own cursor r node).chain
-  child_opened p own cursor r node a o = go (is_parameter_decorator p.node.kind r)
-    where
-      go : (t : Bool) → AllOpened (cond t (outside p.chain) (child_scopes p r own))
-      go true = outside_opened p.chain a
-      go false = within_opened p r own a o
-
-  opened_steps : (p : Place) (own : Option OpenScope) (n cursor : ℕ) (f : Forest) → AllOpened p.chain → OwnOpened own → OpenedFrom IsOpenedAs n (steps_below p own n cursor f) → EachStep IsPlaceOpened (steps_below p own n cursor f)
+  opened_steps : (p : Place) (own : Option OpenScope) (n cursor : ℕ) (f : Forest) → AllOpened p.chain → OwnRound IsOpened own → OpenedFrom IsOpenedAs n (steps_below p own n cursor f) → EachStep IsPlaceOpened (steps_below p own n cursor f)
   opened_steps p own n cursor nothing a o b = last_case (EachStep IsPlaceOpened) p own n tt (tt, (tt, tt))
   opened_steps p own n cursor (tree r k span text marks below id after) a o b =
       let node : Node = record { kind = k; span = span; text = text; marks = marks; children = below; node_id = id } in
       let turn : Turn = turn_at p own n cursor r node after in
       let round : OpenedRound IsOpenedAs n turn = opened_round IsOpenedAs p own n cursor r node after b in
-      let o_scope : OwnOpened turn.scope = own_opened p r own n o round.before in
-      let chain : AllOpened turn.child.chain = child_opened p turn.scope cursor r node a o_scope in
+      let o_scope : OwnRound IsOpened turn.scope = own_opened p r own n o round.before in
+      let chain : AllOpened turn.child.chain = child_round IsOpened (λ s b h. h) p turn.scope cursor r node a o_scope in
       each_of_turn IsPlaceOpened turn (record {
         before = opening_case (EachStep IsPlaceOpened) p r own n tt (tt, tt);
         whole = each_of_node IsPlaceOpened turn.child turn.below chain (opened_steps turn.child None turn.next turn.inner below chain tt round.below) tt;

@@ -38,6 +38,8 @@ use Rattle.language_ties.specs.Scopes.{Maker, maker_of_scope, makers, HasItsEnvi
 use Rattle.language_ties.specs.declared.environment_kind.EnvironmentKind.TheVariants as environment
 use Rattle.language_ties.proofs.SwitchShape.{is_case_by_role, cases_stand, program_cases, is_bare_rest, none_bare}
 use Rattle.walk_model.proofs.places.Shapes.{holds_below}
+use Rattle.binding_laws.proofs.ListLaws.{each_map}
+use Rattle.binding_laws.proofs.SmallLaws.{not_empty}
 use Rattle.language_ties.proofs.with_bodies.BodyStatements.{is_body_by_role, program_bodies}
 
 -- whether `var` declares in the scope of a node of the kind
@@ -218,13 +220,6 @@ KnownAt (opening p s) = Unit {0}
 KnownAt (header_ending p s) = Unit {0}
 KnownAt (closing p s) = Unit {0}
 KnownAt (leaving p) = Unit {0}
-
-pub each_map : (P Q : Step → Type 0) → ((st : Step) → P st → Q st) → (ss : List Step) → EachStep P ss → EachStep Q ss
-each_map P Q f [] h = tt
-each_map P Q f (s ∷ ss) h = (f s h.0, each_map P Q f ss h.1)
-
-not_empty : {A : Type 0} (x : A) (xs : List A) → x ∷ xs ≡ [] → ⊥
-not_empty x xs e = absurd cc
 
 known_steps : (p : Place) (own : Option OpenScope) (n cursor : ℕ) (f : Forest) → IsKnown p → is_ecmascript_forest f ≡ true → cases_stand p.node.kind f ≡ true → holds_below is_body_by_role p.node.kind f ≡ true → OwnMaker p own → EachStep KnownAt (steps_below p own n cursor f)
 known_steps p own n cursor nothing k e c b o = last_case (EachStep KnownAt) p own n tt (tt, (tt, tt))

@@ -1,5 +1,6 @@
 -- A name that nothing binds is free in the tables, wherever it is used.
 use Rattle.std.proofs.Common.{◌≡◌, ℕ, List, [], ◌∷◌, ◌++◌, Option, Some, None, Bool, true, false, ◌&&◌, ◌||◌, cond, map, flat_map, filter, refl, sym, ap, subst, ◌∙◌, inl, inr, codes, if◌then◌else◌, bytes_eq}
+use Rattle.std.proofs.lemmas.Bool.{or_parts}
 use Rattle.std.specs.List.{list_any}
 use Rattle.semantic_kinds.specs.declared.kind.AstType.{AstType}
 use Rattle.semantic_kinds.specs.declared.kind.AstType.TheVariants as kind
@@ -16,15 +17,15 @@ use Rattle.semantic_tree.specs.Views.{is, is_with_text, has, children_of}
 use Rattle.semantic_tree.specs.declared.node.Node.{Node}
 use Rattle.semantic_model.specs.Binder.{BinderRow, declaration_at, is_statement, variable_row, variables_under, is_pure_declarator, function_row, own_function_row, class_row, parameter_excluded, parameters_under, import_flags, catch_names, ids, declared_by, declared_inside, declared_on_entering, declared_on_opening}
 use Rattle.semantic_model.specs.Cursor.{on_entering}
-use Rattle.semantic_model.specs.Declaration.{Declaration, How, plain, hoisted, moved, caught, here}
+use Rattle.semantic_model.specs.Declaration.{Declaration, plain, caught, here}
 use Rattle.semantic_model.specs.EachStep.{EachStep}
 use Rattle.semantic_model.specs.Entries.{Among}
-use Rattle.semantic_model.specs.Event.{Event, declares, takes_over, declared, declared_at, declarations, events, events_of, declares_all, is_barred, staying_declaration, placed, placed_by, taken_over, is_catch_body, written_declarations}
+use Rattle.semantic_model.specs.Event.{Event, declares, takes_over, declared, declared_at, declarations, events, events_of, declares_all, placed, taken_over, is_catch_body, written_declarations}
 use Rattle.semantic_model.specs.Fits.{DeclaredAs}
 use Rattle.semantic_model.specs.NodeTable.{node_tables}
 use Rattle.semantic_model.specs.Names.{bound_names, bound_below, names_at}
 use Rattle.semantic_model.specs.Place as place
-use Rattle.semantic_model.specs.Place.{Place, OpenScope, outside}
+use Rattle.semantic_model.specs.Place.{Place, OpenScope}
 use Rattle.semantic_model.specs.Step.{Step, entering, opening, header_ending, closing, leaving, steps, steps_below, root_place}
 use Rattle.semantic_model.specs.TablesOf.{tables_of}
 use Rattle.std.proofs.lemmas.List.{append-nil, map-append}
@@ -39,6 +40,8 @@ use Rattle.semantic_model.proofs.steps.TurnCases.{opening_case, ending_case, las
 use Rattle.program_laws.specs.SymbolNames.{IsNamed}
 use Rattle.program_laws.proofs.DeclaredNodes.{among_map, among_flat}
 use Rattle.program_laws.proofs.TiedNames.{ties_have_names}
+use Rattle.binding_laws.proofs.DeclaredMade.{placed_naming}
+use Rattle.binding_laws.proofs.ListLaws.{each_at, each_map}
 use Rattle.language_ties.specs.Bound.{Bound, bound_identifier, bound_here, bound_outward, bound_by_declarator, bound_by_declaration, bound_by_catch, bound_by_node, written}
 use Rattle.language_ties.specs.Bound as language
 use Rattle.language_ties.specs.EcmaScript.{is_ecmascript_kind, is_ecmascript}
@@ -49,7 +52,7 @@ use Rattle.language_ties.specs.ToldNames.{Named, named_by_declaration, named_by_
 use Rattle.language_ties.specs.UnboundNames.{binds_name, IsFreeEverywhere}
 use Rattle.language_ties.specs.declared.bound_as.BoundAs.TheVariants as bound
 use Rattle.language_ties.specs.declared.environment_kind.EnvironmentKind.TheVariants as environment
-use Rattle.language_ties.proofs.EnvironmentsRound.{IsKnown, KnownAt, each_map, known_program}
+use Rattle.language_ties.proofs.EnvironmentsRound.{IsKnown, KnownAt, known_program}
 use Rattle.language_ties.proofs.SwitchShape.{is_bare_rest}
 
 -- ---- the names of a node
@@ -217,16 +220,6 @@ module _ (s : SourceType) (x : Name) (Q : ℕ → Type 0) where
 
   -- ---- the declarations of a program
 
-  placed_naming : (how : How) (ds : List Declaration) (d : Declaration) → (placed_by how ds d).naming ≡ d.naming
-  placed_naming plain ds d = refl
-  placed_naming hoisted ds d = refl
-  placed_naming caught ds d = refl
-  placed_naming moved ds d = go (is_barred ds d (outside d.route.passed))
-    where
-      go : (b : Bool) → (if b then staying_declaration d else d).naming ≡ d.naming
-      go true = refl
-      go false = refl
-
   of_all : (ds new : List Declaration) (e : Event) (d : Declaration) → ((n : Declaration) → Among n new → n.naming.name ≡ x → Q n.naming.identifier) → Among e (declares_all ds new) → Among d (declared e) → d.naming.name ≡ x → Q d.naming.identifier
   of_all ds new e d u a b h =
       let (n, c, q) = among_map (λ n. declares (placed ds n)) new e a in
@@ -254,16 +247,11 @@ module _ (s : SourceType) (x : Name) (Q : ℕ → Type 0) where
   of_step ds (closing p o) e d u a b h = absurd a
   of_step ds (leaving p) e d u a b h = absurd a
 
-  each_among : (P : Step → Type 0) (ss : List Step) (st : Step) → EachStep P ss → Among st ss → P st
-  each_among P [] st h a = absurd a
-  each_among P (y ∷ ss) st h (inl e) = subst P e h.0
-  each_among P (y ∷ ss) st h (inr a) = each_among P ss st h.1 a
-
   of_program : (p : Tree) → EachStep Undeclared (steps p) → (d : Declaration) → Among d (declarations (events (steps p))) → d.naming.name ≡ x → Q d.naming.identifier
   of_program p u d a h =
       let (e, b, c) = among_flat declared (events (steps p)) d a in
       let (st, f, g) = among_flat (events_of (written_declarations (steps p))) (steps p) e b in
-      of_step (written_declarations (steps p)) st e d (each_among Undeclared (steps p) st u f) g c h
+      of_step (written_declarations (steps p)) st e d (each_at Undeclared (steps p) st u f) g c h
 
   each_unbound : (ss : List Step) → ((b : Bound) → Among b (written s ss) → b.name ≡ x → Q b.identifier) → EachStep UnboundAt ss
   each_unbound [] h = tt
@@ -294,20 +282,16 @@ module _ (s : SourceType) (x : Name) (Q : ℕ → Type 0) where
 -- ---- names that nothing binds
 
 module _ (x : Name) where
-  or_both : (a b : Bool) → (a || b) ≡ false → (a ≡ false) × (b ≡ false)
-  or_both true b h = absurd cc
-  or_both false b h = (refl, h)
-
   abbrev has_name : Bound → Bool
   has_name b = bytes_eq b.name x
 
   none_named : (bs : List Bound) → list_any has_name bs ≡ false → (b : Bound) → Among b bs → b.name ≡ x → ⊥
   none_named [] h b a e = absurd a
   none_named (c ∷ bs) h b (inl q) e = elim (name_tells c.name x) [
-    | inl t ↦ (let w : true ≡ false = sym t.0 ∙ (or_both (bytes_eq c.name x) (list_any has_name bs) h).0 in absurd cc)
+    | inl t ↦ (let w : true ≡ false = sym t.0 ∙ (or_parts (bytes_eq c.name x) (list_any has_name bs) h).0 in absurd cc)
     | inr t ↦ t.1 (ap name_of_bound q ∙ e)
   ]
-  none_named (c ∷ bs) h b (inr a) e = none_named bs (or_both (bytes_eq c.name x) (list_any has_name bs) h).1 b a e
+  none_named (c ∷ bs) h b (inr a) e = none_named bs (or_parts (bytes_eq c.name x) (list_any has_name bs) h).1 b a e
 
   skipped : (f : Bound → Bool) (c : Bound) (cs : List Bound) → f c ≡ false → filter f (c ∷ cs) ≡ filter f cs
   skipped f c cs h = rw h refl
@@ -316,7 +300,7 @@ module _ (x : Name) where
   no_identifiers : (all bs : List Bound) (e : Environment) → list_any has_name bs ≡ false → identifiers_in (map (moved_by all) bs) e x ≡ []
   no_identifiers all [] e h = refl
   no_identifiers all (b ∷ bs) e h =
-      let q : (bytes_eq b.name x ≡ false) × (list_any has_name bs ≡ false) = or_both (bytes_eq b.name x) (list_any has_name bs) h in
+      let q : (bytes_eq b.name x ≡ false) × (list_any has_name bs ≡ false) = or_parts (bytes_eq b.name x) (list_any has_name bs) h in
       let same : (moved_by all b).name ≡ b.name = kept (language.is_bound_as bound.Function b) in
       let test : is_bound_in e x (moved_by all b) ≡ false =
       ap (λ t. t && (same_environment (moved_by all b).environment e || list_any (λ d. same_environment d e) (moved_by all b).also)) (ap (λ n. bytes_eq n x) same ∙ q.0) in

@@ -1,3 +1,2 @@
 pub mod BoundIdentifiers
-pub mod EvenKinds
 pub mod Seen

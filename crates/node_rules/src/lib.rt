@@ -6,7 +6,6 @@ pub mod bound_identifiers;
 pub mod cursor;
 pub mod declaring;
 pub mod direct_eval;
-pub mod even;
 pub mod inside;
 pub mod questions;
 pub mod rows;

@@ -19,8 +19,7 @@ use Rattle.semantic_tree.specs.Views.{is_role_of}
 use Rattle.semantic_model.specs.Inside.{Inside, no_scope_opens, all_children, only, all_but, opens_for, holds_for, inside, opens, is_inside, any_inside, header_roles, is_in_header}
 use Rattle.semantic_model.specs.Cursor.{at_child, cursor_before, cursor_behind, is_write_place, on_entering, on_leaving}
 use Rattle.walk_notes.specs.NoteLists.{is_noted_behind}
-use Rattle.node_rules.specs.EvenKinds.{acts_on_entering, acts_between, is_passing, is_leaf}
-use Rattle.semantic_walk.specs.Doings.{turns_cursor, moves_cursor, holds_every, are_some, holds_all, has_header, bits_of}
+use Rattle.semantic_walk.specs.Doings.{acts_on_entering, acts_between, is_passing, is_leaf, turns_cursor, moves_cursor, holds_every, are_some, holds_all, has_header, bits_of}
 
 -- whether the bit is one of those of the kind
 abbrev has : AstType → ℕ → Bool

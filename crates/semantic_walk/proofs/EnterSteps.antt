@@ -23,7 +23,7 @@ use Rattle.semantic_walk.specs.Walker.{Walker, noting_node, referring}
 use Rattle.node_store.specs.Entered.{Entered}
 use Rattle.node_store.specs.Entered as store
 use Rattle.semantic_walk.specs.AtPlace.{ComesTo, IsWithin, IsShown, entered, kept_at}
-use Rattle.node_rules.specs.EvenKinds.{acts_on_entering}
+use Rattle.semantic_walk.specs.Doings.{acts_on_entering}
 use Rattle.semantic_walk.specs.Binds.{acting}
 use Rattle.semantic_walk.specs.Paths.{parent_in}
 use Rattle.semantic_walk.proofs.Opening.{alone, parent_above}

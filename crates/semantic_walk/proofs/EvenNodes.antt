@@ -24,7 +24,7 @@ use Rattle.walk_model.specs.WalkState.{WalkState}
 use Rattle.walk_model.specs.Waits.{start_at}
 use Rattle.walk_model.specs.Walks.{after_all}
 use Rattle.walk_notes.specs.NoteLists.{is_noted, is_noted_behind}
-use Rattle.node_rules.specs.EvenKinds.{acts_on_entering, acts_between, is_quiet, is_passing}
+use Rattle.semantic_walk.specs.Doings.{acts_on_entering, acts_between, is_quiet, is_passing}
 use Rattle.semantic_walk.specs.AtPlace.{IsTurnAt, IsBetweenAt}
 use Rattle.semantic_walk.specs.Walker.{Walker}
 use Rattle.semantic_walk.specs.declared.visit.Turn.{Turn}

@@ -30,7 +30,7 @@ use Rattle.walk_model.specs.Probes.{probes_of_steps}
 use Rattle.walk_model.proofs.asking.StepSums.{raised_none}
 use Rattle.semantic_walk.specs.AtPlace.{IsTurnAt, IsComing, entered, told_within, walked_within, walked_over, probes_over}
 use Rattle.semantic_walk.specs.Binds.{acting}
-use Rattle.node_rules.specs.EvenKinds.{acts_between, is_quiet, is_passing, is_leaf}
+use Rattle.semantic_walk.specs.Doings.{acts_between, is_quiet, is_passing, is_leaf}
 use Rattle.semantic_walk.specs.Leaving.{IsLeaving}
 use Rattle.semantic_walk.specs.Listed.{all_listed}
 use Rattle.semantic_walk.specs.Turns.{is_passed, past_leaf}

@@ -8,7 +8,7 @@ use Rattle.semantic_syntax.specs.Reading.{scope_of}
 use Rattle.semantic_model.specs.Inside.{is_inside, is_parameter_decorator}
 use Rattle.semantic_tree.specs.declared.node.Node.{Node}
 use Rattle.semantic_tree.specs.Views.{is}
-use Rattle.node_rules.specs.EvenKinds.{is_passing, is_leaf}
+use Rattle.semantic_walk.specs.Doings.{is_passing, is_leaf}
 use Rattle.semantic_walk.specs.Walker.{Walker, referring}
 use Rattle.semantic_walk.specs.declared.visit.Turn.{Turn}
 use Rattle.walk_model.specs.WalkState.{WalkState}

@@ -6,8 +6,7 @@ ghost use Rattle.semantic_model.specs.Cursor.{cursor_before, cursor_behind};
 ghost use Rattle.semantic_model.specs.Inside.{opens, is_inside, any_inside, is_in_header};
 ghost use Rattle.semantic_tree.specs.Children.{forest_of};
 ghost use Rattle.walk_notes.specs.NoteLists.{is_noted_behind};
-ghost use Rattle.node_rules.specs.EvenKinds.{acts_on_entering, acts_between, is_passing};
-ghost use Rattle.semantic_walk.specs.Doings.{bits_of, turns_cursor, moves_cursor, holds_all, has_header};
+ghost use Rattle.semantic_walk.specs.Doings.{bits_of, acts_on_entering, acts_between, is_passing, turns_cursor, moves_cursor, holds_all, has_header};
 
 use node_rules::cursor;
 use node_rules::inside::{is_in_header, is_inside};

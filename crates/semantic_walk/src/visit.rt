@@ -24,7 +24,7 @@ ghost use Rattle.semantic_syntax.specs.Counts.{raised};
 ghost use Rattle.semantic_syntax.specs.Told.{source_of};
 ghost use Rattle.walk_model.specs.Probes.{probes_of_steps};
 ghost use Rattle.table_building.specs.Settled.{settled_from, probes_from};
-ghost use Rattle.node_rules.specs.EvenKinds.{acts_between};
+ghost use Rattle.semantic_walk.specs.Doings.{acts_between, is_leaf};
 ghost use Rattle.semantic_walk.specs.Turns.{IsTurn, child_scope, is_passed, past_leaf};
 ghost use Rattle.semantic_walk.specs.Walker.{Walker, referring};
 ghost use Rattle.semantic_walk.specs.AtPlace.{IsWithin, IsTurnAt, IsBetweenAt, IsComing, IsSomewhere, IsEntered, HasEntered, walked_within, walked_over, probes_over};
@@ -36,7 +36,6 @@ use crate::walk::Walk;
 use check_context::Rules;
 use node_rules::ambient::{is_ambient_in_child, is_ambient_inside};
 use node_rules::cursor::before_child;
-use node_rules::even::is_leaf;
 use node_rules::inside::{is_in_header, is_parameter_decorator};
 use semantic_syntax::{ReferenceFlags, ScopeId, Steps};
 use semantic_tree::{AstKind, AstType, Mark, Node, Role};
@@ -55,6 +54,14 @@ pub struct Turn {
     header_start: usize,
     /// What the walk does at the node.
     doings: Doings,
+}
+
+/// Whether the node has no children.
+#[inline(always)]
+fn is_leaf(kind: AstKind<'_>) -> bool
+    ensures { result ≡ is_leaf kind.entry.node.now.children }
+{
+    kind.node().children.as_slice().is_empty()
 }
 
 /// Whether one of the children is a part of the header of a parent of the kind.

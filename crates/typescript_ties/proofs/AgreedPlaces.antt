@@ -1,10 +1,10 @@
 -- Place by place, what the scopes answer is what the name means in the containers.
-use Rattle.std.proofs.Common.{◌≡◌, ℕ, List, [], ◌∷◌, ◌++◌, Option, Some, None, Bool, true, false, ◌&&◌, ◌||◌, not, cond, refl, sym, ap, subst, ◌∙◌, inl, inr, ◌⊎◌, bytes_eq, codes, map, filter}
+use Rattle.std.proofs.Common.{◌≡◌, ℕ, ◌==◌, List, [], ◌∷◌, ◌++◌, Option, Some, None, Bool, true, false, ◌&&◌, ◌||◌, cond, refl, sym, ap, subst, ◌∙◌, inl, inr, ◌⊎◌, bytes_eq, codes, map, filter}
 use Rattle.std.specs.List.{list_any}
-use Rattle.std.proofs.lemmas.Bool.{cases_Bool, and_from, not-true}
+use Rattle.std.specs.Prelude.{slice_get}
+use Rattle.std.proofs.lemmas.Bool.{cases_Bool, and_from, eq-eqb}
+use Rattle.std.proofs.lemmas.Bool.Decides.{eqb_tells}
 use Rattle.semantic_syntax.proofs.Truth.{and_first, and_second}
-use Rattle.semantic_kinds.specs.Classes.{holds_kind}
-use Rattle.semantic_kinds.specs.Kinds.{same_kind}
 use Rattle.semantic_kinds.specs.declared.kind.AstType.TheVariants as kind
 use Rattle.semantic_kinds.specs.declared.role.Role.{Role}
 use Rattle.semantic_syntax.specs.Lookup.{Seen, Asked, is_arguments, lookup}
@@ -16,41 +16,48 @@ use Rattle.semantic_syntax.specs.declared.symbol_flags.TheConstants.SymbolFlags 
 use Rattle.semantic_tree.specs.Faults.{first_fault}
 use Rattle.semantic_tree.specs.Forest.{Forest, nothing, tree}
 use Rattle.semantic_tree.specs.Tree.{Tree, IsNumbered}
+use Rattle.semantic_tree.specs.Views.{is}
 use Rattle.semantic_tree.specs.declared.node.Node.{Node}
 use Rattle.semantic_model.specs.Analysis.{analysis_of, symbol_at}
 use Rattle.semantic_model.specs.Cursor.{on_entering}
 use Rattle.semantic_model.specs.EachStep.{EachStep}
 use Rattle.semantic_model.specs.Entries.{Among}
 use Rattle.semantic_model.specs.Fold.{Made}
-use Rattle.semantic_model.specs.Inside.{is_inside, is_in_header, is_parameter_decorator}
-use Rattle.semantic_model.specs.Place.{Place, OpenScope}
+use Rattle.semantic_model.specs.Inside.{is_inside, is_in_header}
+use Rattle.semantic_model.specs.Place.{Place, OpenScope, outside}
 use Rattle.semantic_model.specs.Step.{Step, entering, opening, header_ending, closing, leaving, steps, steps_below, root_place, child_place}
 use Rattle.semantic_model.specs.Tie.{symbol_by}
 use Rattle.semantic_model.proofs.form.ParameterChains.{is_open_inside}
+use Rattle.semantic_model.proofs.form.Shape.{has_form}
 use Rattle.semantic_model.proofs.once.ListedUnder.{name_tells}
 use Rattle.semantic_model.proofs.steps.EachStep.{EachOfTurn, each_left, each_of_node, each_of_turn, turn_of_each}
 use Rattle.semantic_model.proofs.steps.Turn.{Turn, turn_at}
 use Rattle.semantic_model.proofs.steps.TurnCases.{opening_case, ending_case, last_case}
+use Rattle.walk_model.proofs.once.NodeIds.{root_numbered}
 use Rattle.walk_model.proofs.places.Shapes.{holds_below}
 use Rattle.semantic_model.specs.TablesOf.{made_of}
-use Rattle.binding_laws.specs.SeenDeclarations.{bound_by_all}
-use Rattle.binding_laws.proofs.ChildChains.{ChainOf, outer_chain, inner_chain, OwnOf, own_of, chain_of}
-use Rattle.binding_laws.proofs.ScopeOpeners.{openers, IsOpened, AllOpened, IsPlaceOpened, places_opened}
+use Rattle.binding_laws.specs.SeenDeclarations.{is_own_name, stands_before_body, is_before_body, bound_by_all}
 use Rattle.binding_laws.proofs.SymbolsAtNodes.{symbols_are_at_nodes}
-use Rattle.typescript_ties.specs.Containers.{Container, same_container_kind, same_members, same_container, is_container, no_container, outside_function, containers_by}
-use Rattle.typescript_ties.specs.MeaningSets.{MeaningSet, sort_meanings}
-use Rattle.typescript_ties.specs.NamedDeclarations.{NamedDeclaration, named_in}
+use Rattle.typescript_ties.specs.Containers.{Container, same_container_kind, same_members, same_container, no_container, outside_function, containers_by}
+use Rattle.typescript_ties.specs.MeaningSets.{MeaningSet, shares_meaning, sort_meanings}
+use Rattle.typescript_ties.specs.NamedDeclarations.{NamedDeclaration, same_sort, is_sort, named_in}
 use Rattle.typescript_ties.specs.Resolved.{Resolved, nowhere, declared_in, has_declared, declarations_in, has_meaning, resolve}
 use Rattle.typescript_ties.specs.SeenTogether.{is_in_scope, is_seen_from, bound_together, asked_together}
-use Rattle.typescript_ties.specs.SimpleNames.{is_common_child, is_common_forest, is_common, is_apart, is_simple_sort, IsSimplyDeclared, HasOwnMembers, StandsWithTypes, is_way_of}
-use Rattle.typescript_ties.specs.declared.container_kind.ContainerKind.TheVariants as container
+use Rattle.typescript_ties.specs.SimpleNames.{is_common, is_apart, IsSimplyDeclared, HasOwnMembers, is_way_of}
 use Rattle.typescript_ties.specs.declared.declaration_sort.DeclarationSort.TheVariants as sort
+use Rattle.binding_laws.proofs.ChildChains.{ChainOf, outer_chain, inner_chain, OwnOf, own_of}
 use Rattle.typescript_ties.proofs.ChildPlaces.{tells_inside, told_by_kind, tree_tells, tells_header, tree_headed}
+use Rattle.binding_laws.proofs.EnteredOnce.{entered_once}
 use Rattle.typescript_ties.proofs.FitsTogether.{any_meets, AreBoundAs, bound_as_one, is_asked, WayAsks, way_asks}
 use Rattle.typescript_ties.proofs.HeadPlaces.{IsCommonPlace, CommonStep, common_places, round_place}
 use Rattle.typescript_ties.proofs.OutsideGroups.{IsAside, aside_of}
 use Rattle.typescript_ties.proofs.Pairs.{container_kind_is}
-use Rattle.typescript_ties.proofs.ScopeMembers.{SeenAs, seen_as, in_header_types, SeenToo, seen_too}
+use Rattle.typescript_ties.proofs.PastParameters.{is_parameter_named, is_past_parameter}
+use Rattle.typescript_ties.proofs.ScopeMembers.{IsHidden, SeenAs, seen_as, SeenToo, seen_too}
+use Rattle.binding_laws.proofs.ScopeOpeners.{openers, IsOpened, AllOpened, IsPlaceOpened, places_opened, root_opener}
+use Rattle.typescript_ties.proofs.OutsidePlaces.{decorated, plain_round, plain_chain, decorator_has, child_out}
+use Rattle.typescript_ties.proofs.ParameterLists.{is_list_kind, tells_parameters, tree_parameters}
+use Rattle.typescript_ties.proofs.SimpleOnes.{is_not_apart}
 use Rattle.typescript_ties.proofs.SimpleDeclarations.{IsBoth, of_language, made_so, one_symbol}
 use Rattle.typescript_ties.proofs.UndeclaredFree.{OfEntered, IsEnteredIn, all_entered}
 
@@ -134,7 +141,7 @@ module _ (x : Name) (w : ℕ) (no_arguments : bytes_eq x (codes "arguments") ≡
 -- ---- places
 
 module _ (p : Tree) (h : first_fault p ≡ None) (common : is_common p ≡ true) (typed : is_typescript p.source_type ≡ true) (numbered : IsNumbered p.root) (x : Name) (no_arguments : bytes_eq x (codes "arguments") ≡ false)
-    (simply : IsSimplyDeclared p x) (alone : HasOwnMembers p x) (types : StandsWithTypes p x) where
+    (simply : IsSimplyDeclared p x) (alone : HasOwnMembers p x) where
   abbrev ns : List NamedDeclaration
   ns = named_in p
 
@@ -150,7 +157,7 @@ module _ (p : Tree) (h : first_fault p ≡ None) (common : is_common p ≡ true)
   Agrees o nowhere = o ≡ None
   Agrees o (declared_in c ids) = (y : ℕ) × (o ≡ Some y) × AllHave ids y
 
-  -- a scope binds the name to a namespace that is no type, which the look-up passes
+  -- a scope binds the name to a namespace that is no type, or further in to an import of types, and the look-up passes it
   pub record IsMissed (w : ℕ) : Type 0 where
     pub scope : ℕ
     pub number : ℕ
@@ -161,8 +168,7 @@ module _ (p : Tree) (h : first_fault p ≡ None) (common : is_common p ≡ true)
     pub is : made.symbol ≡ number
     pub bound : bound_by_all (filter (is_in_scope scope x) (made_of p)) ≡ Some (record { symbol = number; flags = flags })
     pub any : (m : ℕ) → meets flags m ≡ any_meets m (filter (is_in_scope scope x) (made_of p))
-    pub namespace : meets flags symbol.AsNamespace.bits ≡ true
-    pub no_type : meets flags symbol.ByType.bits ≡ false
+    pub passed : ((meets flags symbol.AsNamespace.bits ≡ true) × (meets flags symbol.ByType.bits ≡ false)) ⊎ ((meets flags symbol.TypeImport.bits ≡ true) × ((scope == 0) ≡ false))
     pub unusable : is_usable w flags ≡ false
 
   -- the name is declared, and the look-up finds nothing
@@ -178,8 +184,19 @@ module _ (p : Tree) (h : first_fault p ≡ None) (common : is_common p ≡ true)
   abbrev pub looked_up : ℕ → List OpenScope → Option ℕ
   looked_up w chain = symbol_by (lookup x w (map (asked_together p x) chain))
 
+  -- of these scopes and containers, from behind a parameter or not
+  abbrev pub AgreesIn : Bool → List OpenScope → List Container → Type 0
+  AgreesIn past chain cs = (asked : MeaningSet) (w : ℕ) → is_way_of asked w ≡ true → (past ≡ true → asked.value ≡ false) → Matches w (looked_up w chain) (resolve ns cs asked x)
+
   abbrev pub AgreesRound : Place → Type 0
-  AgreesRound q = (asked : MeaningSet) (w : ℕ) → is_way_of asked w ≡ true → Matches w (looked_up w q.chain) (resolve ns (round_place p q) asked x)
+  AgreesRound q = AgreesIn (is_past_parameter ns x q.node q.path) q.chain (round_place p q)
+
+  -- outside of the function, from its list of parameters
+  abbrev pub AgreesOutside : Place → Type 0
+  AgreesOutside q = is_list_kind q.node.kind ≡ true → AgreesIn (is_past_parameter ns x q.node q.path) (outside q.chain) (outside_function (round_place p q))
+
+  from_behind : (a b : Bool) (chain : List OpenScope) (cs : List Container) → (a ≡ true → b ≡ true) → AgreesIn a chain cs → AgreesIn b chain cs
+  from_behind a b chain cs f h asked w is_way no_value = h asked w is_way (λ i. no_value (f i))
 
   -- ---- what isn't in the scope at all
 
@@ -203,7 +220,7 @@ module _ (p : Tree) (h : first_fault p ≡ None) (common : is_common p ≡ true)
           let (w, both) = of_language p h common typed numbered x simply n b named in
           let here : same_container n.container d ≡ true = left_or (same_container n.container d) (list_any (λ z. same_container z d) n.also) (and_second (bytes_eq n.name x) (same_container n.container d || list_any (λ z. same_container z d) n.also) j) (both.pair.also d aside.no_global) in
           let same : n.container.kind ≡ d.kind = container_kind_is n.container.kind d.kind (and_first (same_container_kind n.container.kind d.kind) (same_members n.container d n.container.members d.members) here) in
-          never (sym aside.apart ∙ ap is_apart (sym same) ∙ not-true (is_apart n.container.kind) (and_second (is_simple_sort n.sort) (not (is_apart n.container.kind)) (simply n b named)))
+          never (sym aside.apart ∙ ap is_apart (sym same) ∙ is_not_apart n (simply.each n b named))
         where
           left_or : (u v : Bool) → (u || v) ≡ true → v ≡ false → u ≡ true
           left_or true v i k = refl
@@ -215,13 +232,21 @@ module _ (p : Tree) (h : first_fault p ≡ None) (common : is_common p ≡ true)
     | inr e ↦ (let (d, a, i, j) = e in absurd (never (sym i ∙ nothing_aside d (f d a) asked)))
   ]
 
+  past_outer : (a b : Bool) → b ≡ true → (a || b) ≡ true
+  past_outer true b e = refl
+  past_outer false b e = e
+
+  past_first : (a b : Bool) → a ≡ true → (a || b) ≡ true
+  past_first true b e = refl
+  past_first false b e = absurd (never (sym e))
+
   -- ---- a child within the scope of a place
 
   module _ (q : Place) (entered : Among (entering q) (steps p)) (k : IsCommonPlace p q) (agree : AgreesRound q) (r : Role) (node : Node) (text : List ℕ)
       (tells : tells_inside q.node.kind r node.kind text ≡ true) (headed : tells_header q.node.kind r node.kind text ≡ true) (inside : is_inside q.node.kind r ≡ true)
       (s : OpenScope) (opener : s.opener ≡ q.node.node_id) (header : s.in_header ≡ is_in_header q.node.kind r) (opened : IsOpened (openers (steps p)) s)
       (c : Place) (c_entered : Among (entering c) (steps p)) (c_round : round_place p c ≡ containers_by q.node.kind p.source_type q.node q.path (round_place p q) node ++ round_place p q)
-      (asked : MeaningSet) (w : ℕ) (is_way : is_way_of asked w ≡ true) where
+      (asked : MeaningSet) (w : ℕ) (is_way : is_way_of asked w ≡ true) (no_value : is_past_parameter ns x node (q.node ∷ q.path) ≡ true → asked.value ≡ false) where
     abbrev group : List Container
     group = containers_by q.node.kind p.source_type q.node q.path (round_place p q) node
 
@@ -236,6 +261,9 @@ module _ (p : Tree) (h : first_fault p ≡ None) (common : is_common p ≡ true)
 
     of_seen : (m : Made) → Among m seen → Seen' m
     of_seen m a = let (b, e) = among_filter (is_seen_from s x) (made_of p) m a in seen_as p h common typed numbered x simply alone q entered k r node text tells headed inside s opener header opened c c_entered c_round m b e
+
+    abbrev Hidden : NamedDeclaration → Type 0
+    Hidden n = IsHidden p h common typed numbered x simply alone q entered k r node text tells headed inside s opener header opened c c_entered c_round n
 
     abbrev Too : NamedDeclaration → Type 0
     Too n = SeenToo p h common typed numbered x simply alone q entered k r node text tells headed inside s opener header opened c c_entered c_round n
@@ -254,10 +282,27 @@ module _ (p : Tree) (h : first_fault p ≡ None) (common : is_common p ≡ true)
     rest chain = looked_up w chain
 
     goal : (o : Option ℕ) → o ≡ looked_up w q.chain → resolve ns (group ++ outer) asked x ≡ resolve ns outer asked x → Matches w o (resolve ns (group ++ outer) asked x)
-    goal o e f = subst (λ z. Matches w z (resolve ns (group ++ outer) asked x)) (sym e) (subst (Matches w (looked_up w q.chain)) (sym f) (agree asked w is_way))
+    goal o e f = subst (λ z. Matches w z (resolve ns (group ++ outer) asked x)) (sym e) (subst (Matches w (looked_up w q.chain)) (sym f) (agree asked w is_way (λ i. no_value (past_outer (is kind.TSTypeParameterDeclaration node && list_any (is_parameter_named q.node x) ns) (is_past_parameter ns x q.node q.path) i))))
 
     abbrev Goal : Option Seen → Type 0
     Goal b = Matches w (symbol_by (lookup x w (record { scope = s.number; flags = s.flags; bound = b } ∷ map (asked_together p x) q.chain))) (resolve ns (group ++ outer) asked x)
+
+    -- where a parameter is hidden, no value is asked for
+    past_here : (n : NamedDeclaration) → Among n ns → n.name ≡ x → Hidden n → asked.value ≡ false
+    past_here n a e z = no_value (past_first (is kind.TSTypeParameterDeclaration node && list_any (is_parameter_named q.node x) ns) (is_past_parameter ns x q.node q.path)
+        (and_from (is kind.TSTypeParameterDeclaration node) (list_any (is_parameter_named q.node x) ns) z.past (any_there (is_parameter_named q.node x) ns n a
+        (and_from (is_sort sort.Parameter n) (bytes_eq n.name x && n.container.node == q.node.node_id) (ap (λ t. same_sort t sort.Parameter) z.parameter)
+        (and_from (bytes_eq n.name x) (n.container.node == q.node.node_id) (elim (name_tells n.name x) [ inl j ↦ j.0 | inr j ↦ absurd (j.1 e) ]) (eq-eqb n.container.node q.node.node_id z.stands))))))
+
+    hidden_means_none : (n : NamedDeclaration) → Hidden n → asked.value ≡ false → has_meaning asked n ≡ false
+    hidden_means_none n z e = ap (λ t. shares_meaning asked (sort_meanings t)) z.parameter ∙ none asked.value asked.is_type asked.namespace e
+      where
+        none : (a b c : Bool) → a ≡ false → ((a && true) || ((b && false) || (c && false))) ≡ false
+        none true b c i = absurd (never i)
+        none false true true i = refl
+        none false true false i = refl
+        none false false true i = refl
+        none false false false i = refl
 
     -- the scope doesn't declare it
     when_none : seen ≡ [] → Goal None
@@ -289,15 +334,8 @@ module _ (p : Tree) (h : first_fault p ≡ None) (common : is_common p ≡ true)
       bound_is : bound_together p x s ≡ Some (record { symbol = first.symbol; flags = F })
       bound_is = ap bound_by_all is_seen ∙ together.bound
 
-      same_any : (ms : List Made) → ((m : Made) → Among m ms → meets m.declaration.naming.flags symbol.ByValueAsType.bits ≡ meets m.declaration.naming.flags symbol.ByValue.bits) → any_meets symbol.ByValueAsType.bits ms ≡ any_meets symbol.ByValue.bits ms
-      same_any [] f = refl
-      same_any (m ∷ ms) f = λ i. f m (inl refl) i || same_any ms (λ z a. f z (inr a)) i
-
-      same_value : meets F symbol.ByValueAsType.bits ≡ meets F symbol.ByValue.bits
-      same_value = any_is symbol.ByValueAsType.bits ∙ same_any seen (λ m a. (let b : Seen' m = of_seen m a in b.both.pair.flags.as_type ∙ sym b.both.pair.flags.value)) ∙ sym (any_is symbol.ByValue.bits)
-
       asks : WayAsks asked w F
-      asks = way_asks w F same_value asked is_way
+      asks = way_asks w F asked is_way
 
       -- what one of them is, they are together
       flag_of : (v : Bool) (mask : ℕ) (m : Made) → Among m seen → (v && meets m.declaration.naming.flags mask) ≡ true → (v && meets F mask) ≡ true
@@ -320,9 +358,9 @@ module _ (p : Tree) (h : first_fault p ≡ None) (common : is_common p ≡ true)
 
       asked_up : (m : Made) → Among m seen → is_asked asked m.declaration.naming.flags ≡ true → is_asked asked F ≡ true
       asked_up m a e =
-          or_by (asked.value && meets m.declaration.naming.flags symbol.ByValue.bits) (asked.is_type && meets m.declaration.naming.flags symbol.ByType.bits) (asked.namespace && meets m.declaration.naming.flags symbol.AsNamespace.bits)
-          (asked.value && meets F symbol.ByValue.bits) (asked.is_type && meets F symbol.ByType.bits) (asked.namespace && meets F symbol.AsNamespace.bits)
-          (flag_of asked.value symbol.ByValue.bits m a) (flag_of asked.is_type symbol.ByType.bits m a) (flag_of asked.namespace symbol.AsNamespace.bits m a) e
+          or_by (asked.value && meets m.declaration.naming.flags symbol.ByValueAsType.bits) (asked.is_type && meets m.declaration.naming.flags symbol.ByType.bits) (asked.namespace && meets m.declaration.naming.flags symbol.AsNamespace.bits)
+          (asked.value && meets F symbol.ByValueAsType.bits) (asked.is_type && meets F symbol.ByType.bits) (asked.namespace && meets F symbol.AsNamespace.bits)
+          (flag_of asked.value symbol.ByValueAsType.bits m a) (flag_of asked.is_type symbol.ByType.bits m a) (flag_of asked.namespace symbol.AsNamespace.bits m a) e
 
       -- and what they are together, one of them is
       from_flag : (v : Bool) (mask : ℕ) → (v && meets F mask) ≡ true → (m : Made) × Among m seen × ((v && meets m.declaration.naming.flags mask) ≡ true)
@@ -331,7 +369,7 @@ module _ (p : Tree) (h : first_fault p ≡ None) (common : is_common p ≡ true)
           (m, a, and_from v (meets m.declaration.naming.flags mask) (and_first v (meets F mask) e) i)
 
       asked_down : is_asked asked F ≡ true → (m : Made) × Among m seen × (is_asked asked m.declaration.naming.flags ≡ true)
-      asked_down e = by (asked.value && meets F symbol.ByValue.bits) (asked.is_type && meets F symbol.ByType.bits) (asked.namespace && meets F symbol.AsNamespace.bits) refl refl refl e
+      asked_down e = by (asked.value && meets F symbol.ByValueAsType.bits) (asked.is_type && meets F symbol.ByType.bits) (asked.namespace && meets F symbol.AsNamespace.bits) refl refl refl e
         where
           one : (u v : Bool) → u ≡ true → (u || v) ≡ true
           one true v i = refl
@@ -348,10 +386,10 @@ module _ (p : Tree) (h : first_fault p ≡ None) (common : is_common p ≡ true)
           three false false true i = refl
           three false false false i = absurd (never (sym i))
 
-          by : (a b c : Bool) → (asked.value && meets F symbol.ByValue.bits) ≡ a → (asked.is_type && meets F symbol.ByType.bits) ≡ b → (asked.namespace && meets F symbol.AsNamespace.bits) ≡ c → (a || (b || c)) ≡ true → (m : Made) × Among m seen × (is_asked asked m.declaration.naming.flags ≡ true)
-          by true b c i j l e = let (m, a, g) = from_flag asked.value symbol.ByValue.bits i in (m, a, one (asked.value && meets m.declaration.naming.flags symbol.ByValue.bits) ((asked.is_type && meets m.declaration.naming.flags symbol.ByType.bits) || (asked.namespace && meets m.declaration.naming.flags symbol.AsNamespace.bits)) g)
-          by false true c i j l e = let (m, a, g) = from_flag asked.is_type symbol.ByType.bits j in (m, a, two (asked.value && meets m.declaration.naming.flags symbol.ByValue.bits) (asked.is_type && meets m.declaration.naming.flags symbol.ByType.bits) (asked.namespace && meets m.declaration.naming.flags symbol.AsNamespace.bits) g)
-          by false false true i j l e = let (m, a, g) = from_flag asked.namespace symbol.AsNamespace.bits l in (m, a, three (asked.value && meets m.declaration.naming.flags symbol.ByValue.bits) (asked.is_type && meets m.declaration.naming.flags symbol.ByType.bits) (asked.namespace && meets m.declaration.naming.flags symbol.AsNamespace.bits) g)
+          by : (a b c : Bool) → (asked.value && meets F symbol.ByValueAsType.bits) ≡ a → (asked.is_type && meets F symbol.ByType.bits) ≡ b → (asked.namespace && meets F symbol.AsNamespace.bits) ≡ c → (a || (b || c)) ≡ true → (m : Made) × Among m seen × (is_asked asked m.declaration.naming.flags ≡ true)
+          by true b c i j l e = let (m, a, g) = from_flag asked.value symbol.ByValueAsType.bits i in (m, a, one (asked.value && meets m.declaration.naming.flags symbol.ByValueAsType.bits) ((asked.is_type && meets m.declaration.naming.flags symbol.ByType.bits) || (asked.namespace && meets m.declaration.naming.flags symbol.AsNamespace.bits)) g)
+          by false true c i j l e = let (m, a, g) = from_flag asked.is_type symbol.ByType.bits j in (m, a, two (asked.value && meets m.declaration.naming.flags symbol.ByValueAsType.bits) (asked.is_type && meets m.declaration.naming.flags symbol.ByType.bits) (asked.namespace && meets m.declaration.naming.flags symbol.AsNamespace.bits) g)
+          by false false true i j l e = let (m, a, g) = from_flag asked.namespace symbol.AsNamespace.bits l in (m, a, three (asked.value && meets m.declaration.naming.flags symbol.ByValueAsType.bits) (asked.is_type && meets m.declaration.naming.flags symbol.ByType.bits) (asked.namespace && meets m.declaration.naming.flags symbol.AsNamespace.bits) g)
           by false false false i j l e = absurd (never (sym e))
 
       -- the identifiers of the container have the symbol
@@ -364,24 +402,42 @@ module _ (p : Tree) (h : first_fault p ≡ None) (common : is_common p ≡ true)
             all_have d b l (λ z a. f z (inr a)),
           )
 
-      -- in a header they are type parameters, and no namespaces
+      -- in a header stands no namespace
       no_header : meets F symbol.AsNamespace.bits ≡ true → s.in_header ≡ false
       no_header e = elim (cases_Bool s.in_header) [
         | inr i ↦ i
         | inl i ↦ (let (m, a, g) = any_among (λ y. meets y.declaration.naming.flags symbol.AsNamespace.bits) seen (sym (any_is symbol.AsNamespace.bits) ∙ e) in
             let b : Seen' m = of_seen m a in
-            let free : is_apart b.named.container.kind ≡ false = not-true (is_apart b.named.container.kind) (and_second (is_simple_sort b.named.sort) (not (is_apart b.named.container.kind)) (simply b.named b.both.named b.both.named_so)) in
-            let typed_container : is_container container.TypeParameters b.named.container ≡ true = in_header_types p h common typed numbered x simply alone q entered k r node text tells headed inside s opener header opened c c_entered c_round i b.named.container b.there_so free in
-            let is_parameter : b.named.sort ≡ sort.TypeParameter = types b.named b.both.named b.both.named_so typed_container in
-            absurd (never (sym g ∙ b.both.pair.flags.namespace ∙ ap (λ z. (sort_meanings z).namespace) is_parameter)))
+            let before : is_before_body s.number x m ≡ true = sym (ap (λ t. cond t (is_before_body s.number x m) (is_in_scope s.number x m)) i) ∙ (among_filter (is_seen_from s x) (made_of p) m a).1 in
+            let headed : (m.declaration.route.target.in_header || is_own_name m.declaration) ≡ true = and_second (m.declaration.route.target.number == s.number) (m.declaration.route.target.in_header || is_own_name m.declaration) (and_first (stands_before_body s.number m.declaration) (bytes_eq m.declaration.naming.name x) before) in
+            let unheaded : m.declaration.route.target.in_header ≡ false = b.both.pair.home.unheaded (sym b.both.pair.flags.namespace ∙ g) in
+            let no_own : is_own_name m.declaration ≡ false = elim b.both.pair.own [
+              | inl z ↦ z
+              | inr (is_name, at) ↦ absurd (never (sym g ∙ b.both.pair.flags.namespace ∙ ap (λ z. (sort_meanings z).namespace) is_name))
+            ] in
+            absurd (never (sym headed ∙ (λ t. unheaded t || no_own t))))
       ]
 
-      missed : is_asked asked F ≡ true → is_usable w F ≡ false → IsMissed w
+      -- past the root's scope nothing is found
+      at_top : s.number ≡ 0 → q.chain ≡ []
+      at_top e =
+          let id : s.opener ≡ 0 = some_is s.opener 0 (sym opened ∙ ap (slice_get (openers (steps p))) e ∙ root_opener p (has_form p h).root numbered) in
+          ap (λ (z : Place). z.chain) (entered_once p numbered q (root_place p) entered (inl refl) (sym opener ∙ id ∙ sym (root_numbered p numbered).0))
+        where
+          some_is : (m n : ℕ) → Some m ≡ Some n → m ≡ n
+          some_is m n i = cc
+
+      abbrev passed : Option ℕ
+      passed = symbol_by (lookup x w (record { scope = s.number; flags = s.flags; bound = Some (record { symbol = first.symbol; flags = F }) } ∷ map (asked_together p x) q.chain))
+
+      missed : is_asked asked F ≡ true → is_usable w F ≡ false → IsMissed w ⊎ IsFreeThough passed
       missed e f =
-          let (namespace, no_type) = asks.missed e f in
+          let (namespace, sort) = asks.missed e f in
           let plain : s.in_header ≡ false = no_header namespace in
           let in_scope : seen ≡ filter (is_in_scope s.number x) (made_of p) = rw plain refl in
           let a : Among first seen = subst (Among first) (sym is_seen) (inl refl) in
+          let b : Seen' first = of_seen first a in
+          let missed_so : ((meets F symbol.AsNamespace.bits ≡ true) × (meets F symbol.ByType.bits ≡ false)) ⊎ ((meets F symbol.TypeImport.bits ≡ true) × ((s.number == 0) ≡ false)) → IsMissed w = λ o.
           record {
             scope = s.number;
             number = first.symbol;
@@ -392,10 +448,21 @@ module _ (p : Tree) (h : first_fault p ≡ None) (common : is_common p ≡ true)
             is = refl;
             bound = ap bound_by_all (sym in_scope) ∙ bound_is;
             any = λ m. any_is m ∙ ap (any_meets m) in_scope;
-            namespace = namespace;
-            no_type = no_type;
+            passed = o;
             unusable = f;
-          }
+          } in
+          elim sort [
+            | inl no_type ↦ inl (missed_so (inl (namespace, no_type)))
+            | inr import ↦ elim (eqb_tells s.number 0) [
+              | inr i ↦ inl (missed_so (inr (import, i.0)))
+              | inl i ↦ inr (record {
+                free = next_if_unusable x w no_arguments s.number s.flags first.symbol F (map (asked_together p x) q.chain) f ∙ ap (looked_up w) (at_top i.1);
+                made = first;
+                among = (among_filter (is_seen_from s x) (made_of p) first a).0;
+                named = b.name;
+              })
+            ]
+          ]
 
       when_some : Goal (Some (record { symbol = first.symbol; flags = F }))
       when_some = elim (in_group ns asked x group outer) [
@@ -406,13 +473,16 @@ module _ (p : Tree) (h : first_fault p ≡ None) (common : is_common p ≡ true)
             elim (cases_Bool (is_usable w F)) [
               | inl u ↦ inl (subst (Agrees (symbol_by (lookup x w (record { scope = s.number; flags = s.flags; bound = Some (record { symbol = first.symbol; flags = F }) } ∷ map (asked_together p x) q.chain)))) (sym j)
                   (first.symbol, found_if_usable x w no_arguments s.number s.flags first.symbol F (map (asked_together p x) q.chain) u, all_have d a (declarations_in ns d x) (λ z e. e)))
-              | inr u ↦ inr (inl (missed is_so u))
+              | inr u ↦ inr (missed is_so u)
             ])
         | inl f ↦ elim (cases_Bool (is_usable w F)) [
           | inl u ↦ (let (m, a, g) = asked_down (asks.found u) in
               let b : Seen' m = of_seen m a in
-              let has : has_it ns asked x b.container ≡ true = any_there (has_meaning asked) (declarations_in ns b.container x) b.named (filter_among (has_declared b.container x) ns b.named b.both.named b.has) (sym (meaning_is m b.named b.both) ∙ g) in
-              absurd (never (sym has ∙ f.1 b.container b.there)))
+              let has : has_it ns asked x b.named.container ≡ true = any_there (has_meaning asked) (declarations_in ns b.named.container x) b.named (filter_among (has_declared b.named.container x) ns b.named b.both.named b.has) (sym (meaning_is m b.named b.both) ∙ g) in
+              elim b.there [
+                | inl z ↦ absurd (never (sym has ∙ f.1 b.named.container z))
+                | inr z ↦ absurd (never (sym (sym (meaning_is m b.named b.both) ∙ g) ∙ hidden_means_none b.named z (past_here b.named b.both.named b.both.named_so z)))
+              ])
           | inr u ↦ goal (symbol_by (lookup x w (record { scope = s.number; flags = s.flags; bound = Some (record { symbol = first.symbol; flags = F }) } ∷ map (asked_together p x) q.chain)))
               (next_if_unusable x w no_arguments s.number s.flags first.symbol F (map (asked_together p x) q.chain) u) f.0
         ]
@@ -428,7 +498,7 @@ module _ (p : Tree) (h : first_fault p ≡ None) (common : is_common p ≡ true)
   -- ---- all places
 
   abbrev pub AgreedStep : Step → Type 0
-  AgreedStep (entering q) = AgreesRound q
+  AgreedStep (entering q) = AgreesRound q × AgreesOutside q
   AgreedStep (opening q o) = Unit {0}
   AgreedStep (header_ending q o) = Unit {0}
   AgreedStep (closing q o) = Unit {0}
@@ -443,56 +513,81 @@ module _ (p : Tree) (h : first_fault p ≡ None) (common : is_common p ≡ true)
 
   child_agrees : (q : Place) (entered : Among (entering q) (steps p)) (k : IsCommonPlace p q) (agree : AgreesRound q) (r : Role) (node : Node) (text : List ℕ)
       (tells : tells_inside q.node.kind r node.kind text ≡ true) (headed : tells_header q.node.kind r node.kind text ≡ true)
-      (chain : List OpenScope) → ChainOf q.node.kind r q.node q.chain chain → AllOpened table chain → (c : Place) → Among (entering c) (steps p) → c.chain ≡ chain
+      (chain : List OpenScope) → ChainOf q.node.kind r q.node q.chain chain → AllOpened table chain → (c : Place) → Among (entering c) (steps p) → c.chain ≡ chain → is_past_parameter ns x c.node c.path ≡ is_past_parameter ns x node (q.node ∷ q.path)
       → round_place p c ≡ containers_by q.node.kind p.source_type q.node q.path (round_place p q) node ++ round_place p q → AgreesRound c
-  child_agrees q entered k agree r node text tells headed chain (outer_chain i) opened c c_entered e c_round asked w is_way =
+  child_agrees q entered k agree r node text tells headed chain (outer_chain i) opened c c_entered e past c_round asked w is_way no_value =
       let g : List Container = containers_by q.node.kind p.source_type q.node q.path (round_place p q) node in
       let skipped : resolve ns (g ++ round_place p q) asked x ≡ resolve ns (round_place p q) asked x =
       aside_group g (round_place p q) (λ d a. aside_of p.source_type q.node node q.path (round_place p q) r q.node.kind d k.no_with i (told_by_kind q.node.kind r node.kind text tells) a) asked in
       subst (λ l. Matches w (looked_up w l) (resolve ns (round_place p c) asked x)) (sym e)
-      (subst (λ l. Matches w (looked_up w q.chain) (resolve ns l asked x)) (sym c_round) (subst (Matches w (looked_up w q.chain)) (sym skipped) (agree asked w is_way)))
-  child_agrees q entered k agree r node text tells headed chain (inner_chain s i opener header lasting) opened c c_entered e c_round asked w is_way =
+      (subst (λ l. Matches w (looked_up w q.chain) (resolve ns l asked x)) (sym c_round) (subst (Matches w (looked_up w q.chain)) (sym skipped) (agree asked w is_way (λ i. no_value (past ∙ past_outer (is kind.TSTypeParameterDeclaration node && list_any (is_parameter_named q.node x) ns) (is_past_parameter ns x q.node q.path) i)))))
+  child_agrees q entered k agree r node text tells headed chain (inner_chain s i opener header lasting) opened c c_entered e past c_round asked w is_way no_value =
       subst (λ l. Matches w (looked_up w l) (resolve ns (round_place p c) asked x)) (sym e)
       (subst (λ l. Matches w (looked_up w (s ∷ q.chain)) (resolve ns l asked x)) (sym c_round)
-      (within_scope q entered k agree r node text tells headed i s opener header opened.0 c c_entered c_round asked w is_way))
+      (within_scope q entered k agree r node text tells headed i s opener header opened.0 c c_entered c_round asked w is_way (λ i. no_value (past ∙ i))))
 
-  agreed_below : (q : Place) (own : Option OpenScope) (n cursor : ℕ) (f : Forest) → Among (entering q) (steps p) → IsCommonPlace p q → AgreesRound q → OwnOf q own → is_common_forest q.node.kind f ≡ true → holds_below tells_inside q.node.kind f ≡ true → holds_below tells_header q.node.kind f ≡ true
+  -- any child, be it a decorator
+  module _ (q : Place) (entered : Among (entering q) (steps p)) (k : IsCommonPlace p q) (agree : AgreesRound q) (out : AgreesOutside q) (r : Role) (node : Node) (text : List ℕ) (own : Option OpenScope) (cursor : ℕ)
+      (params : tells_parameters q.node.kind r node.kind text ≡ true) (reached : is_inside q.node.kind r ≡ true → own ≡ None → ⊥) (own_is : OwnOf q own)
+      (tells : tells_inside q.node.kind r node.kind text ≡ true) (headed : tells_header q.node.kind r node.kind text ≡ true)
+      (opened : AllOpened table (child_place q own cursor r node).chain) (c_entered : Among (entering (child_place q own cursor r node)) (steps p)) where
+    abbrev c : Place
+    c = child_place q own cursor r node
+
+    abbrev behind : Bool
+    behind = is_past_parameter ns x node (q.node ∷ q.path)
+
+    further : is_past_parameter ns x q.node q.path ≡ true → behind ≡ true
+    further i = past_outer (is kind.TSTypeParameterDeclaration node && list_any (is_parameter_named q.node x) ns) (is_past_parameter ns x q.node q.path) i
+
+    out_further : is_list_kind q.node.kind ≡ true → AgreesIn behind (outside q.chain) (outside_function (round_place p q))
+    out_further e = from_behind (is_past_parameter ns x q.node q.path) behind (outside q.chain) (outside_function (round_place p q)) further (out e)
+
+    any_agrees : AgreesRound c
+    any_agrees = elim (cases_Bool (decorated p.source_type q r node text own cursor params reached own_is)) [
+      | inl e ↦ decorator_has p.source_type q r node text own cursor params reached own_is (AgreesIn behind) out_further e
+      | inr e ↦ child_agrees q entered k agree r node text tells headed c.chain (plain_chain p.source_type q r node text own cursor params reached own_is e) opened c c_entered refl refl (plain_round p.source_type q r node text own cursor params reached own_is e)
+    ]
+
+    out_agrees : AgreesOutside c
+    out_agrees = child_out p.source_type q r node text own cursor params reached own_is (AgreesIn behind) out_further k.before (from_behind (is_past_parameter ns x q.node q.path) behind q.chain (round_place p q) further agree)
+
+    both_agree : AgreesRound c × AgreesOutside c
+    both_agree = (any_agrees, out_agrees)
+
+  agreed_below : (q : Place) (own : Option OpenScope) (n cursor : ℕ) (f : Forest) → Among (entering q) (steps p) → IsCommonPlace p q → AgreesRound q × AgreesOutside q → OwnOf q own
+      → holds_below tells_inside q.node.kind f ≡ true → holds_below tells_header q.node.kind f ≡ true → holds_below tells_parameters q.node.kind f ≡ true
       → EachStep Entered (steps_below q own n cursor f) → EachStep (CommonStep p) (steps_below q own n cursor f) → EachStep (IsPlaceOpened table) (steps_below q own n cursor f) → EachStep AgreedStep (steps_below q own n cursor f)
-  agreed_below q own n cursor nothing a k g o c t h es ks os = last_case (EachStep AgreedStep) q own n tt (tt, (tt, tt))
-  agreed_below q own n cursor (tree r k2 span text marks below id after) a k g o c t h es ks os =
+  agreed_below q own n cursor nothing a k g o t h i es ks os = last_case (EachStep AgreedStep) q own n tt (tt, (tt, tt))
+  agreed_below q own n cursor (tree r k2 span text marks below id after) a k g o t h i es ks os =
       let node : Node = record { kind = k2; span = span; text = text; marks = marks; children = below; node_id = id } in
       let turn : Turn = turn_at q own n cursor r node after in
       let entered : EachOfTurn Entered turn = turn_of_each Entered turn es in
       let commons : EachOfTurn (CommonStep p) turn = turn_of_each (CommonStep p) turn ks in
       let opens : EachOfTurn (IsPlaceOpened table) turn = turn_of_each (IsPlaceOpened table) turn os in
-      let here : is_common_child q.node.kind r k2 ≡ true = and_first (is_common_child q.node.kind r k2) (is_common_forest k2 below && is_common_forest q.node.kind after) c in
-      let forests : (is_common_forest k2 below && is_common_forest q.node.kind after) ≡ true = and_second (is_common_child q.node.kind r k2) (is_common_forest k2 below && is_common_forest q.node.kind after) c in
-      let decorated : Bool = holds_kind (kind.FormalParameter ∷ kind.FormalParameterRest ∷ []) q.node.kind && same_kind k2 kind.Decorator in
-      let undecorated : (not (is_parameter_decorator q.node.kind r) && not decorated) ≡ true = and_second (not (same_kind k2 kind.WithStatement)) (not (is_parameter_decorator q.node.kind r) && not decorated) here in
       let tells : (holds_below tells_inside k2 below && holds_below tells_inside q.node.kind after) ≡ true = and_second (tells_inside q.node.kind r k2 text) (holds_below tells_inside k2 below && holds_below tells_inside q.node.kind after) t in
       let headed : (holds_below tells_header k2 below && holds_below tells_header q.node.kind after) ≡ true = and_second (tells_header q.node.kind r k2 text) (holds_below tells_header k2 below && holds_below tells_header q.node.kind after) h in
+      let params : (holds_below tells_parameters k2 below && holds_below tells_parameters q.node.kind after) ≡ true = and_second (tells_parameters q.node.kind r k2 text) (holds_below tells_parameters k2 below && holds_below tells_parameters q.node.kind after) i in
       let own_is : OwnOf q turn.scope = own_of q r own n o in
-      let plain : decorated ≡ false = not-true decorated (and_second (not (is_parameter_decorator q.node.kind r)) (not decorated) undecorated) in
-      let child : AgreesRound turn.child = child_agrees q a k g r node text
+      let child : AgreesRound turn.child × AgreesOutside turn.child = both_agree q a k g.0 g.1 r node text turn.scope cursor
+      (and_first (tells_parameters q.node.kind r k2 text) (holds_below tells_parameters k2 below && holds_below tells_parameters q.node.kind after) i) (is_open_inside q r own n) own_is
       (and_first (tells_inside q.node.kind r k2 text) (holds_below tells_inside k2 below && holds_below tells_inside q.node.kind after) t)
       (and_first (tells_header q.node.kind r k2 text) (holds_below tells_header k2 below && holds_below tells_header q.node.kind after) h)
-      (child_place q turn.scope cursor r node).chain
-      (chain_of q r turn.scope cursor node (not-true (is_parameter_decorator q.node.kind r) (and_first (not (is_parameter_decorator q.node.kind r)) (not decorated) undecorated)) (is_open_inside q r own n) own_is)
-      opens.whole.0 turn.child entered.whole.0 refl
-      (ap (λ b. cond b (outside_function (round_place p q)) (containers_by q.node.kind p.source_type q.node q.path (round_place p q) node ++ round_place p q)) plain) in
+      opens.whole.0 entered.whole.0 in
       each_of_turn AgreedStep turn (record {
         before = opening_case (EachStep AgreedStep) q r own n tt (tt, tt);
         whole = each_of_node AgreedStep turn.child turn.below child
-            (agreed_below turn.child None turn.next turn.inner below entered.whole.0 commons.whole.0 child tt (and_first (is_common_forest k2 below) (is_common_forest q.node.kind after) forests) (and_first (holds_below tells_inside k2 below) (holds_below tells_inside q.node.kind after) tells) (and_first (holds_below tells_header k2 below) (holds_below tells_header q.node.kind after) headed)
+            (agreed_below turn.child None turn.next turn.inner below entered.whole.0 commons.whole.0 child tt (and_first (holds_below tells_inside k2 below) (holds_below tells_inside q.node.kind after) tells) (and_first (holds_below tells_header k2 below) (holds_below tells_header q.node.kind after) headed)
+            (and_first (holds_below tells_parameters k2 below) (holds_below tells_parameters q.node.kind after) params)
             (each_left Entered turn.below (leaving turn.child ∷ []) entered.whole.1) (each_left (CommonStep p) turn.below (leaving turn.child ∷ []) commons.whole.1) (each_left (IsPlaceOpened table) turn.below (leaving turn.child ∷ []) opens.whole.1)) tt;
         behind = ending_case (EachStep AgreedStep) q r turn.scope after tt (λ o. (tt, tt)) (λ o. (tt, tt)) (λ o. (tt, (tt, tt)));
-        others = agreed_below q turn.scope turn.rest turn.past after a k g own_is (and_second (is_common_forest k2 below) (is_common_forest q.node.kind after) forests) (and_second (holds_below tells_inside k2 below) (holds_below tells_inside q.node.kind after) tells) (and_second (holds_below tells_header k2 below) (holds_below tells_header q.node.kind after) headed)
-            entered.others commons.others opens.others;
+        others = agreed_below q turn.scope turn.rest turn.past after a k g own_is (and_second (holds_below tells_inside k2 below) (holds_below tells_inside q.node.kind after) tells) (and_second (holds_below tells_header k2 below) (holds_below tells_header q.node.kind after) headed)
+            (and_second (holds_below tells_parameters k2 below) (holds_below tells_parameters q.node.kind after) params) entered.others commons.others opens.others;
       })
 
   -- outermost there is what `global` blocks declare
   root_agrees : AgreesRound (root_place p)
-  root_agrees asked w is_way = by (has_it ns asked x no_container) refl
+  root_agrees asked w is_way no_value = by (has_it ns asked x no_container) refl
     where
       by : (b : Bool) → has_it ns asked x no_container ≡ b → Matches w None (cond b (declared_in no_container (map (λ n. n.identifier) (declarations_in ns no_container x))) nowhere)
       by false e = inl refl
@@ -509,7 +604,8 @@ module _ (p : Tree) (h : first_fault p ≡ None) (common : is_common p ≡ true)
       let n : ℕ = on_entering p.root.kind 0 in
       let below : List Step = steps_below root None 0 n p.root.children in
       let es : EachStep Entered (steps p) = all_entered (steps p) (steps p) (λ st a. a) in
-      let ks : EachStep (CommonStep p) (steps p) = common_places p h common in
+      let ks : EachStep (CommonStep p) (steps p) = common_places p h common numbered in
       let os : EachStep (IsPlaceOpened table) (steps p) = places_opened p in
-      each_of_node AgreedStep root below root_agrees
-      (agreed_below root None 0 n p.root.children es.0 ks.0 root_agrees tt common (tree_tells p h) (tree_headed p h) (each_left Entered below (leaving root ∷ []) es.1) (each_left (CommonStep p) below (leaving root ∷ []) ks.1) (each_left (IsPlaceOpened table) below (leaving root ∷ []) os.1)) tt
+      let both : AgreesRound root × AgreesOutside root = (root_agrees, λ e. absurd (never (sym (subst (λ k. is_list_kind k ≡ true) (has_form p h).root e)))) in
+      each_of_node AgreedStep root below both
+      (agreed_below root None 0 n p.root.children es.0 ks.0 both tt (tree_tells p h) (tree_headed p h) (tree_parameters p h) (each_left Entered below (leaving root ∷ []) es.1) (each_left (CommonStep p) below (leaving root ∷ []) ks.1) (each_left (IsPlaceOpened table) below (leaving root ∷ []) os.1)) tt

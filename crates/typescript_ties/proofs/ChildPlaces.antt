@@ -60,11 +60,11 @@ tells_by_kind k r k2 = same_truth (is_inside k r) (same_truth (are_inside k) (ho
 abbrev pub tells_inside : AstType → Role → AstType → List ℕ → Bool
 tells_inside k r k2 text = is_told_by_role k || same_truth (is_inside k r) (same_truth (are_inside k) (holds_kind (telling_kinds k) k2))
 
-abbrev is_one_of : List AstType → Class → Bool
+abbrev pub is_one_of : List AstType → Class → Bool
 is_one_of ks (class.Only k) = holds_kind ks k
 is_one_of ks c = false
 
-abbrev is_none_of : List AstType → Class → List ℕ → Bool
+abbrev pub is_none_of : List AstType → Class → List ℕ → Bool
 is_none_of ks c text = list_all (λ k. not (is_of c k text)) ks
 
 tells_part : AstType → List ℕ → Part → Bool
@@ -75,11 +75,11 @@ unfolding tells_part
 all_tell kind.Program text = refl
 all_tell _ text = refl
 
-one_of : (ks : List AstType) (c : Class) (k2 : AstType) (text : List ℕ) → is_one_of ks c ≡ true → is_of c k2 text ≡ true → holds_kind ks k2 ≡ true
+pub one_of : (ks : List AstType) (c : Class) (k2 : AstType) (text : List ℕ) → is_one_of ks c ≡ true → is_of c k2 text ≡ true → holds_kind ks k2 ≡ true
 one_of ks (class.Only k) k2 text h i = subst (λ m. holds_kind ks m ≡ true) (sym (kind_is k2 k (sym (only_is k k2 text) ∙ i))) h
 one_of ks _ k2 text h i = absurd cc
 
-none_of : (ks : List AstType) (c : Class) (k2 : AstType) (text : List ℕ) → is_none_of ks c text ≡ true → is_of c k2 text ≡ true → holds_kind ks k2 ≡ false
+pub none_of : (ks : List AstType) (c : Class) (k2 : AstType) (text : List ℕ) → is_none_of ks c text ≡ true → is_of c k2 text ≡ true → holds_kind ks k2 ≡ false
 none_of [] c k2 text h i = refl
 none_of (k ∷ ks) c k2 text h i = elim (cases_Bool (same_kind k k2)) [
   | inl e ↦ (let q : is_of c k text ≡ true = subst (λ m. is_of c m text ≡ true) (sym (kind_is k k2 e)) i in

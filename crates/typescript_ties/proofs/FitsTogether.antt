@@ -1,10 +1,10 @@
 -- What declarations of one symbol bind together, and whether a way fits that.
-use Rattle.std.proofs.Common.{◌≡◌, ℕ, ◌==◌, List, [], ◌∷◌, Some, Bool, true, false, ◌&&◌, ◌||◌, not, cond, refl, sym, ap, ◌∙◌, inl, inr, fold}
+use Rattle.std.proofs.Common.{◌≡◌, ℕ, ◌==◌, List, [], ◌∷◌, Some, Bool, true, false, ◌&&◌, ◌||◌, not, cond, refl, sym, ap, ◌∙◌, inl, inr, ◌⊎◌, fold}
 use Rattle.std.specs.List.{list_any}
 use Rattle.std.specs.Int.RustNames.{bit_and}
 use Rattle.std.proofs.lemmas.Bool.{cases_Bool, eq-eqb, not-true}
 use Rattle.std.proofs.lemmas.Bool.Decides.{eqb_tells}
-use Rattle.std.proofs.lemmas.Nat.{and_or_apart}
+use Rattle.std.proofs.lemmas.Nat.{and_comm, and_or_apart}
 use Rattle.semantic_syntax.proofs.Truth.{and_first, and_second}
 use Rattle.semantic_syntax.specs.Sets.{meets, union}
 use Rattle.semantic_syntax.specs.Usable.{asks_for_namespace, is_usable}
@@ -79,36 +79,35 @@ bound_as_one k ms y h =
 
 -- ---- ways
 
--- whether it is what is asked for, by the flags of values, types and namespaces
+meets_swapped : (f m : ℕ) → meets f m ≡ meets m f
+meets_swapped f m = ap (λ n. not (n == 0)) (and_comm f m)
+
+pub meets_mask : (f a b : ℕ) → meets f (union a b) ≡ (meets f a || meets f b)
+meets_mask f a b = meets_swapped f (union a b) ∙ meets_union a b f ∙ (λ i. meets_swapped a f i || meets_swapped b f i)
+
+-- whether it is what is asked for, by the flags of values, types and namespaces; by name, what is imported as a type may be a value
 abbrev pub is_asked : MeaningSet → ℕ → Bool
-is_asked a flags = (a.value && meets flags symbol.ByValue.bits) || ((a.is_type && meets flags symbol.ByType.bits) || (a.namespace && meets flags symbol.AsNamespace.bits))
+is_asked a flags = (a.value && meets flags symbol.ByValueAsType.bits) || ((a.is_type && meets flags symbol.ByType.bits) || (a.namespace && meets flags symbol.AsNamespace.bits))
 
-abbrev usable_if : Bool → Bool → Bool → Bool → Bool → Bool → Bool → Bool
-usable_if a b c n v t s = (((a && v) || (b && t)) || (c && v)) && (not n || s)
+-- a namespace that is no type, or an import of types that is no value
+abbrev pub MayPass : ℕ → Type 0
+MayPass flags =
+    (meets flags symbol.AsNamespace.bits ≡ true) × ((meets flags symbol.ByType.bits ≡ false) ⊎ (meets flags symbol.TypeImport.bits ≡ true))
 
-as_value : (a c v t s : Bool) → (a || c) ≡ true → usable_if a false c false v t s ≡ v
-as_value true true true t s h = refl
-as_value true true false t s h = refl
-as_value true false true t s h = refl
-as_value true false false t s h = refl
-as_value false true true t s h = refl
-as_value false true false t s h = refl
-as_value false false v t s h = absurd (never (sym h))
-
-as_type : (v t s : Bool) → usable_if false true false false v t s ≡ t
-as_type true true s = refl
-as_type true false s = refl
-as_type false true s = refl
-as_type false false s = refl
-
--- what it finds is asked for, and what is asked for and not found is a namespace that is no type
+-- what it finds is asked for, and what is asked for and not found may be passed
 pub record WayAsks (asked : MeaningSet) (w flags : ℕ) : Type 0 where
   pub found : is_usable w flags ≡ true → is_asked asked flags ≡ true
-  pub missed : is_asked asked flags ≡ true → is_usable w flags ≡ false → (meets flags symbol.AsNamespace.bits ≡ true) × (meets flags symbol.ByType.bits ≡ false)
+  pub missed : is_asked asked flags ≡ true → is_usable w flags ≡ false → MayPass flags
 
-module _ (w flags : ℕ) (same : meets flags symbol.ByValueAsType.bits ≡ meets flags symbol.ByValue.bits) where
+abbrev usable_if : (a b c n v m t s : Bool) → Bool
+usable_if a b c n v m t s = (((a && v) || (b && t)) || (c && (v || m))) && (not n || s)
+
+module _ (w flags : ℕ) where
   abbrev v : Bool
   v = meets flags symbol.ByValue.bits
+
+  abbrev m : Bool
+  m = meets flags symbol.TypeImport.bits
 
   abbrev t : Bool
   t = meets flags symbol.ByType.bits
@@ -128,61 +127,102 @@ module _ (w flags : ℕ) (same : meets flags symbol.ByValueAsType.bits ≡ meets
   abbrev n : Bool
   n = asks_for_namespace w
 
-  usable_is : is_usable w flags ≡ usable_if a b c n v t s
-  usable_is = ap (λ z. (((a && v) || (b && t)) || (c && z)) && (not n || s)) same
+  value_is : meets flags symbol.ByValueAsType.bits ≡ (v || m)
+  value_is = meets_mask flags symbol.ByValue.bits symbol.TypeImport.bits
+
+  within : (x y : Bool) → y ≡ (x || y) → x ≡ true → y ≡ true
+  within true y e h = e
+  within false y e h = absurd (never (sym h))
+
+  -- an import of types may be a type and a namespace
+  import_type : m ≡ true → t ≡ true
+  import_type h = within m t (meets_mask flags symbol.TypeImport.bits symbol.ByType.bits) h
+
+  import_namespace : m ≡ true → s ≡ true
+  import_namespace h = within m s (meets_mask flags symbol.TypeImport.bits symbol.AsNamespace.bits) h
+
+  usable_is : is_usable w flags ≡ usable_if a b c n v m t s
+  usable_is = ap (λ z. (((a && v) || (b && t)) || (c && z)) && (not n || s)) value_is
 
   abbrev Asks : Bool → Bool → Bool → Type 0
   Asks x y z = WayAsks (record { value = x; is_type = y; namespace = z }) w flags
 
+  asked_is : (x y z : Bool) → is_asked (record { value = x; is_type = y; namespace = z }) flags ≡ ((x && (v || m)) || ((y && t) || (z && s)))
+  asked_is x y z = ap (λ u. (x && u) || ((y && t) || (z && s))) value_is
+
+  value_found : (a c v m t s : Bool) → usable_if a false c false v m t s ≡ true → (v || m) ≡ true
+  value_found a c true m t s h = refl
+  value_found a c false true t s h = refl
+  value_found true true false false t s h = absurd (never (sym h))
+  value_found true false false false t s h = absurd (never (sym h))
+  value_found false true false false t s h = absurd (never (sym h))
+  value_found false false false false t s h = absurd (never (sym h))
+
+  value_missed : (a c v m t s : Bool) → (a || c) ≡ true → (v || m) ≡ true → usable_if a false c false v m t s ≡ false → m ≡ true
+  value_missed a c v true t s h e f = refl
+  value_missed a c false false t s h e f = absurd (never (sym e))
+  value_missed true c true false t s h e f = absurd (never f)
+  value_missed false true true false t s h e f = absurd (never f)
+  value_missed false false true false t s h e f = absurd (never (sym h))
+
   asks_value : ((a || c) && (not b && not n)) ≡ true → Asks true false false
   asks_value h =
-      let g : is_usable w flags ≡ v = usable_is ∙ (λ i. usable_if a (not-true b (and_first (not b) (not n) (and_second (a || c) (not b && not n) h)) i) c (not-true n (and_second (not b) (not n) (and_second (a || c) (not b && not n) h)) i) v t s) ∙ as_value a c v t s (and_first (a || c) (not b && not n) h) in
-      record { found = λ e. ap (λ z. z || false) (sym g ∙ e); missed = λ e f. absurd (never (sym (sym (or_false v) ∙ e) ∙ sym g ∙ f)) }
+      let g : is_usable w flags ≡ usable_if a false c false v m t s = usable_is ∙ (λ i. usable_if a (not-true b (and_first (not b) (not n) (and_second (a || c) (not b && not n) h)) i) c (not-true n (and_second (not b) (not n) (and_second (a || c) (not b && not n) h)) i) v m t s) in
+      record {
+        found = λ e. asked_is true false false ∙ or_false (v || m) ∙ value_found a c v m t s (sym g ∙ e);
+        missed = λ e f. (let k : m ≡ true = value_missed a c v m t s (and_first (a || c) (not b && not n) h) (sym (or_false (v || m)) ∙ sym (asked_is true false false) ∙ e) (sym g ∙ f) in (import_namespace k, inr k));
+      }
+
+  as_type : (v m t s : Bool) → usable_if false true false false v m t s ≡ t
+  as_type v m true s = refl
+  as_type v m false s = refl
 
   asks_type : ((b && not a) && (not c && not n)) ≡ true → Asks false true false
   asks_type h =
       let first : (b && not a) ≡ true = and_first (b && not a) (not c && not n) h in
       let second : (not c && not n) ≡ true = and_second (b && not a) (not c && not n) h in
-      let g : is_usable w flags ≡ t = usable_is ∙ (λ i. usable_if (not-true a (and_second b (not a) first) i) (and_first b (not a) first i) (not-true c (and_first (not c) (not n) second) i) (not-true n (and_second (not c) (not n) second) i) v t s) ∙ as_type v t s in
+      let g : is_usable w flags ≡ t = usable_is ∙ (λ i. usable_if (not-true a (and_second b (not a) first) i) (and_first b (not a) first i) (not-true c (and_first (not c) (not n) second) i) (not-true n (and_second (not c) (not n) second) i) v m t s) ∙ as_type v m t s in
       record { found = λ e. ap (λ z. z || false) (sym g ∙ e); missed = λ e f. absurd (never (sym (sym (or_false t) ∙ e) ∙ sym g ∙ f)) }
 
-  namespace_found : (a c v t s : Bool) → usable_if a true c true v t s ≡ true → s ≡ true
-  namespace_found a c v t true h = refl
-  namespace_found a c v t false h = absurd (never (sym (and_second (((a && v) || (true && t)) || (c && v)) false h)))
+  namespace_found : (a c v m t s : Bool) → usable_if a true c true v m t s ≡ true → s ≡ true
+  namespace_found a c v m t true h = refl
+  namespace_found a c v m t false h = absurd (never (sym (and_second (((a && v) || (true && t)) || (c && (v || m))) false h)))
 
-  namespace_missed : (a c v t : Bool) → usable_if a true c true v t true ≡ false → t ≡ false
-  namespace_missed a c v true h = absurd (never (by a v c h))
-    where
-      by : (a v c : Bool) → usable_if a true c true v true true ≡ false → true ≡ false
-      by true true c h = h
-      by true false c h = h
-      by false v c h = h
-  namespace_missed a c v false h = refl
+  namespace_missed : (a c v m t : Bool) → usable_if a true c true v m t true ≡ false → t ≡ false
+  namespace_missed a c v m false h = refl
+  namespace_missed true c true m true h = absurd (never h)
+  namespace_missed true c false m true h = absurd (never h)
+  namespace_missed false c v m true h = absurd (never h)
 
-  asks_namespace : (z : Bool) → (b && n) ≡ true → z ≡ true → Asks false false z
-  asks_namespace z h q =
-      let g : is_usable w flags ≡ usable_if a true c true v t s = usable_is ∙ (λ i. usable_if a (and_first b n h i) c (and_second b n h i) v t s) in
+  asks_namespace : (b && n) ≡ true → Asks false false true
+  asks_namespace h =
+      let g : is_usable w flags ≡ usable_if a true c true v m t s = usable_is ∙ (λ i. usable_if a (and_first b n h i) c (and_second b n h i) v m t s) in
       record {
-        found = λ e. (λ i. q i && s) ∙ namespace_found a c v t s (sym g ∙ e);
-        missed = λ e f. (let k : s ≡ true = sym (λ i. q i && s) ∙ e in (k, namespace_missed a c v t (sym (λ i. usable_if a true c true v t (k i)) ∙ sym g ∙ f)));
+        found = λ e. namespace_found a c v m t s (sym g ∙ e);
+        missed = λ e f. (e, inl (namespace_missed a c v m t (sym (λ i. usable_if a true c true v m t (e i)) ∙ sym g ∙ f)));
       }
 
-  any_found : (v t s : Bool) (c : Bool) → usable_if true true c false v t s ≡ true → (v || (t || s)) ≡ true
-  any_found true t s c h = refl
-  any_found false true s c h = refl
-  any_found false false s true h = absurd (never (sym h))
-  any_found false false s false h = absurd (never (sym h))
+  any_found : (v m t s : Bool) (c : Bool) → usable_if true true c false v m t s ≡ true → ((v || m) || (t || s)) ≡ true
+  any_found true m t s c h = refl
+  any_found false true t s c h = refl
+  any_found false false true s c h = refl
+  any_found false false false s true h = absurd (never (sym h))
+  any_found false false false s false h = absurd (never (sym h))
 
-  any_missed : (v t s : Bool) (c : Bool) → (v || (t || s)) ≡ true → usable_if true true c false v t s ≡ false → (s ≡ true) × (t ≡ false)
-  any_missed true t s c e h = absurd (never h)
-  any_missed false true s c e h = absurd (never h)
-  any_missed false false s c e h = (e, refl)
+  any_missed : (v m t s : Bool) (c : Bool) → (m ≡ true → t ≡ true) → ((v || m) || (t || s)) ≡ true → usable_if true true c false v m t s ≡ false → (s ≡ true) × (t ≡ false)
+  any_missed true m t s c k e h = absurd (never h)
+  any_missed false m true s c k e h = absurd (never h)
+  any_missed false true false s c k e h = absurd (never (sym (k refl)))
+  any_missed false false false s c k e h = (e, refl)
 
   asks_any : ((a && b) && not n) ≡ true → Asks true true true
   asks_any h =
       let first : (a && b) ≡ true = and_first (a && b) (not n) h in
-      let g : is_usable w flags ≡ usable_if true true c false v t s = usable_is ∙ (λ i. usable_if (and_first a b first i) (and_second a b first i) c (not-true n (and_second (a && b) (not n) h) i) v t s) in
-      record { found = λ e. any_found v t s c (sym g ∙ e); missed = λ e f. any_missed v t s c e (sym g ∙ f) }
+      let g : is_usable w flags ≡ usable_if true true c false v m t s = usable_is ∙ (λ i. usable_if (and_first a b first i) (and_second a b first i) c (not-true n (and_second (a && b) (not n) h) i) v m t s) in
+      record {
+        found = λ e. asked_is true true true ∙ any_found v m t s c (sym g ∙ e);
+        missed = λ e f. (let k : (s ≡ true) × (t ≡ false) = any_missed v m t s c import_type (sym (asked_is true true true) ∙ e) (sym g ∙ f) in (k.0, inl k.1));
+      }
 
   by_meanings : (x y z : Bool) → is_way_by x y z w ≡ true → Asks x y z
   by_meanings true true true h = asks_any h
@@ -191,7 +231,7 @@ module _ (w flags : ℕ) (same : meets flags symbol.ByValueAsType.bits ≡ meets
   by_meanings true false false h = asks_value h
   by_meanings false true true h = absurd (never (sym h))
   by_meanings false true false h = asks_type h
-  by_meanings false false true h = asks_namespace true h refl
+  by_meanings false false true h = asks_namespace h
   by_meanings false false false h = absurd (never (sym h))
 
   pub way_asks : (asked : MeaningSet) → is_way_of asked w ≡ true → WayAsks asked w flags

@@ -15,7 +15,7 @@ use Rattle.typescript_ties.specs.Containers.{Container, same_container_kind, is_
 use Rattle.typescript_ties.specs.SimpleNames.{is_apart}
 use Rattle.typescript_ties.specs.declared.container_kind.ContainerKind.TheVariants as container
 use Rattle.typescript_ties.proofs.ChildPlaces.{is_told_by_role, tells_by_kind, is_function}
-use Rattle.typescript_ties.proofs.Heads.{inside_is}
+use Rattle.typescript_ties.proofs.Heads.{is_of_header, inside_is}
 
 never : true ≡ false → ⊥
 never h = absurd cc
@@ -25,8 +25,8 @@ pub record GroupMember (k : AstType) (x ch : Node) (sibling : Node) (g : List Co
   pub node : c.node ≡ x.node_id
   pub body : is_container container.Body c ≡ true → is_function k ≡ true
   pub no_global : same_container_kind container.Globals c.kind ≡ false
-  pub again : is_apart c.kind ≡ false → (is_container container.Body c ≡ true → is_of_signature sibling ≡ false) → Among c g
-  pub header : is_apart c.kind ≡ false → (is_function k ≡ true → is_of_signature ch ≡ true) → (is_function k ≡ true) ⊎ (same_kind k kind.CatchClause ≡ true) → is_container container.TypeParameters c ≡ true
+  pub again : is_apart c.kind ≡ false → (is_container container.Body c ≡ true → is_of_signature sibling ≡ false) → (is_container container.Parameters c ≡ true → is kind.TSTypeParameterDeclaration sibling ≡ false) → Among c g
+  pub header : is_apart c.kind ≡ false → (is_function k ≡ true → is_of_signature ch ≡ true) → (is_function k ≡ true) ⊎ (same_kind k kind.CatchClause ≡ true) → is_of_header c ≡ true
 
 among_if : (t : Bool) (l : List Container) (c : Container) → Among c (cond t l []) → Among c l
 among_if true l c a = a
@@ -47,7 +47,7 @@ module _ (s : SourceType) (x ch node : Node) (path : List Node) (outer : List Co
     node = n;
     body = λ i. absurd (never (sym i ∙ b));
     no_global = g;
-    again = λ e i. a e;
+    again = λ e i j. a e;
     header = λ e i o. elim o [ inl q ↦ absurd (never (sym q ∙ f)) | inr q ↦ absurd (never (sym q ∙ d)) ];
   }
 
@@ -56,7 +56,7 @@ module _ (s : SourceType) (x ch node : Node) (path : List Node) (outer : List Co
     node = n;
     body = λ i. absurd (never (sym i ∙ b));
     no_global = g;
-    again = λ e i. absurd (never (sym a ∙ e));
+    again = λ e i j. absurd (never (sym a ∙ e));
     header = λ e i o. absurd (never (sym a ∙ e));
   }
 
@@ -70,25 +70,34 @@ module _ (s : SourceType) (x ch node : Node) (path : List Node) (outer : List Co
   two k c d c0 (inr (inl e)) m n = subst (Member k) e n
   two k c d c0 (inr (inr a)) m n = absurd a
 
-  parameters_member : (k : AstType) (c0 : Container) → is_function k ≡ false → same_kind k kind.CatchClause ≡ false → Among c0 (parameter_containers x ch) → (Among (container_of container.TypeParameters x) (containers_by k s x path outer node)) → Member k c0
-  parameters_member k c0 f d a again = by (is kind.TSTypeParameterDeclaration ch) a
-    where
-      types : Member k (container_of container.TypeParameters x)
-      types = plain_member k (container_of container.TypeParameters x) f d refl refl refl (λ e. again)
-
-      params : Member k (container_of container.Parameters x)
-      params = apart_member k (container_of container.Parameters x) refl refl refl refl
-
-      by : (t : Bool) → Among c0 (cond t [] (container_of container.Parameters x ∷ []) ++ container_of container.TypeParameters x ∷ []) → Member k c0
-      by true b = one k (container_of container.TypeParameters x) c0 b types
-      by false b = two k (container_of container.Parameters x) (container_of container.TypeParameters x) c0 b params types
-
   last_types : Among (container_of container.TypeParameters x) (parameter_containers x node)
   last_types = by (is kind.TSTypeParameterDeclaration node)
     where
       by : (t : Bool) → Among (container_of container.TypeParameters x) (cond t [] (container_of container.Parameters x ∷ []) ++ container_of container.TypeParameters x ∷ [])
       by true = inl refl
       by false = inr (inl refl)
+
+  first_parameters : is kind.TSTypeParameterDeclaration node ≡ false → Among (container_of container.Parameters x) (parameter_containers x node)
+  first_parameters e = subst (λ t. Among (container_of container.Parameters x) (cond t [] (container_of container.Parameters x ∷ []) ++ container_of container.TypeParameters x ∷ [])) (sym e) (inl refl)
+
+  parameters_member : (k : AstType) (c0 : Container) → is_function k ≡ false → same_kind k kind.CatchClause ≡ false → Among c0 (parameter_containers x ch) → ((c : Container) → Among c (parameter_containers x node) → Among c (containers_by k s x path outer node)) → Member k c0
+  parameters_member k c0 f d a again = by (is kind.TSTypeParameterDeclaration ch) a
+    where
+      types : Member k (container_of container.TypeParameters x)
+      types = plain_member k (container_of container.TypeParameters x) f d refl refl refl (λ e. again (container_of container.TypeParameters x) last_types)
+
+      params : Member k (container_of container.Parameters x)
+      params = record {
+        node = refl;
+        body = λ i. absurd (never (sym i));
+        no_global = refl;
+        again = λ e i j. again (container_of container.Parameters x) (first_parameters (j refl));
+        header = λ e i o. refl;
+      }
+
+      by : (t : Bool) → Among c0 (cond t [] (container_of container.Parameters x ∷ []) ++ container_of container.TypeParameters x ∷ []) → Member k c0
+      by true b = one k (container_of container.TypeParameters x) c0 b types
+      by false b = two k (container_of container.Parameters x) (container_of container.TypeParameters x) c0 b params types
 
   function_member : (k : AstType) (c0 : Container) → is_function k ≡ true → containers_by k s x path outer node ≡ function_containers x node → Among c0 (function_containers x ch) → Member k c0
   function_member k c0 f same a = by (is_of_signature ch) (is kind.TSTypeParameterDeclaration ch) refl a
@@ -111,18 +120,35 @@ module _ (s : SourceType) (x ch node : Node) (path : List Node) (outer : List Co
         node = refl;
         body = λ i. f;
         no_global = refl;
-        again = λ a i. here (container_of container.Body x) (body_among (is_of_signature node) (is kind.TSTypeParameterDeclaration node) refl (i refl));
+        again = λ a i j. here (container_of container.Body x) (body_among (is_of_signature node) (is kind.TSTypeParameterDeclaration node) refl (i refl));
         header = λ a i o. absurd (never (sym (i f) ∙ e));
       }
 
       types : Member k (container_of container.TypeParameters x)
-      types = record { node = refl; body = λ i. f; no_global = refl; again = λ a i. here (container_of container.TypeParameters x) (types_among (is_of_signature node) (is kind.TSTypeParameterDeclaration node)); header = λ a i o. refl }
+      types = record { node = refl; body = λ i. f; no_global = refl; again = λ a i j. here (container_of container.TypeParameters x) (types_among (is_of_signature node) (is kind.TSTypeParameterDeclaration node)); header = λ a i o. refl }
+
+      parameters_among : (t u : Bool) → u ≡ false → Among (container_of container.Parameters x) (cond t [] (container_of container.Body x ∷ []) ++ (cond u [] (container_of container.Parameters x ∷ []) ++ container_of container.TypeParameters x ∷ []) ++ container_of container.OwnName x ∷ [])
+      parameters_among t true e = absurd (never e)
+      parameters_among true false e = inl refl
+      parameters_among false false e = inr (inl refl)
 
       params : Member k (container_of container.Parameters x)
-      params = apart_member k (container_of container.Parameters x) refl refl refl refl
+      params = record {
+        node = refl;
+        body = λ i. f;
+        no_global = refl;
+        again = λ a i j. here (container_of container.Parameters x) (parameters_among (is_of_signature node) (is kind.TSTypeParameterDeclaration node) (j refl));
+        header = λ a i o. refl;
+      }
+
+      own_among : (t u : Bool) → Among (container_of container.OwnName x) (cond t [] (container_of container.Body x ∷ []) ++ (cond u [] (container_of container.Parameters x ∷ []) ++ container_of container.TypeParameters x ∷ []) ++ container_of container.OwnName x ∷ [])
+      own_among true true = inr (inl refl)
+      own_among true false = inr (inr (inl refl))
+      own_among false true = inr (inr (inl refl))
+      own_among false false = inr (inr (inr (inl refl)))
 
       own : Member k (container_of container.OwnName x)
-      own = apart_member k (container_of container.OwnName x) refl refl refl refl
+      own = record { node = refl; body = λ i. f; no_global = refl; again = λ a i j. here (container_of container.OwnName x) (own_among (is_of_signature node) (is kind.TSTypeParameterDeclaration node)); header = λ a i o. refl }
 
       by : (t u : Bool) → is_of_signature ch ≡ t → Among c0 (cond t [] (container_of container.Body x ∷ []) ++ (cond u [] (container_of container.Parameters x ∷ []) ++ container_of container.TypeParameters x ∷ []) ++ container_of container.OwnName x ∷ []) → Member k c0
       by true true e b = two k (container_of container.TypeParameters x) (container_of container.OwnName x) c0 b types own
@@ -147,19 +173,21 @@ module _ (s : SourceType) (x ch node : Node) (path : List Node) (outer : List Co
   member_of kind.Program c0 w i t a = one kind.Program (container_of container.File x) c0 a (plain_member kind.Program (container_of container.File x) refl refl refl refl refl (λ e. inl refl))
   member_of kind.Function c0 w i t a = function_member kind.Function c0 refl refl a
   member_of kind.ArrowFunctionExpression c0 w i t a = function_member kind.ArrowFunctionExpression c0 refl refl a
-  member_of kind.TSFunctionType c0 w i t a = parameters_member kind.TSFunctionType c0 refl refl a last_types
-  member_of kind.TSConstructorType c0 w i t a = parameters_member kind.TSConstructorType c0 refl refl a last_types
-  member_of kind.TSCallSignatureDeclaration c0 w i t a = parameters_member kind.TSCallSignatureDeclaration c0 refl refl a last_types
-  member_of kind.TSConstructSignatureDeclaration c0 w i t a = parameters_member kind.TSConstructSignatureDeclaration c0 refl refl a last_types
+  member_of kind.TSFunctionType c0 w i t a = parameters_member kind.TSFunctionType c0 refl refl a (λ c b. b)
+  member_of kind.TSConstructorType c0 w i t a = parameters_member kind.TSConstructorType c0 refl refl a (λ c b. b)
+  member_of kind.TSCallSignatureDeclaration c0 w i t a = parameters_member kind.TSCallSignatureDeclaration c0 refl refl a (λ c b. b)
+  member_of kind.TSConstructSignatureDeclaration c0 w i t a = parameters_member kind.TSConstructSignatureDeclaration c0 refl refl a (λ c b. b)
   member_of kind.TSMethodSignature c0 w i t a =
       parameters_member kind.TSMethodSignature c0 refl refl (among_if (is_of_signature ch) (parameter_containers x ch) c0 a)
-      (let_in (is_of_signature node) (container_of container.TypeParameters x) (parameter_containers x node) (inside_is (is_inside kind.TSMethodSignature r) true (is_of_signature node) (t refl) i) last_types)
+      (λ c b. let_in (is_of_signature node) c (parameter_containers x node) (inside_is (is_inside kind.TSMethodSignature r) true (is_of_signature node) (t refl) i) b)
   member_of kind.TSIndexSignature c0 w i t a = one kind.TSIndexSignature (container_of container.IndexSignature x) c0 a (apart_member kind.TSIndexSignature (container_of container.IndexSignature x) refl refl refl refl)
   member_of kind.Class c0 w i t a =
       two kind.Class (container_of container.TypeParameters x) (container_of container.OwnName x) c0 (among_unless (is_one_of_kind kind.Decorator ch) (container_of container.TypeParameters x ∷ container_of container.OwnName x ∷ []) c0 a)
-      (plain_member kind.Class (container_of container.TypeParameters x) refl refl refl refl refl (λ e. let_out (is_one_of_kind kind.Decorator node) (container_of container.TypeParameters x) (container_of container.TypeParameters x ∷ container_of container.OwnName x ∷ [])
-      (not-true (is_one_of_kind kind.Decorator node) (inside_is (is_inside kind.Class r) false (is_one_of_kind kind.Decorator node) (t refl) i)) (inl refl)))
-      (apart_member kind.Class (container_of container.OwnName x) refl refl refl refl)
+      (plain_member kind.Class (container_of container.TypeParameters x) refl refl refl refl refl (λ e. in_class (container_of container.TypeParameters x) (inl refl)))
+      (plain_member kind.Class (container_of container.OwnName x) refl refl refl refl refl (λ e. in_class (container_of container.OwnName x) (inr (inl refl))))
+    where
+      in_class : (c : Container) → Among c (container_of container.TypeParameters x ∷ container_of container.OwnName x ∷ []) → Among c (cond (is_one_of_kind kind.Decorator node) [] (container_of container.TypeParameters x ∷ container_of container.OwnName x ∷ []))
+      in_class c b = let_out (is_one_of_kind kind.Decorator node) c (container_of container.TypeParameters x ∷ container_of container.OwnName x ∷ []) (not-true (is_one_of_kind kind.Decorator node) (inside_is (is_inside kind.Class r) false (is_one_of_kind kind.Decorator node) (t refl) i)) b
   member_of kind.TSInterfaceDeclaration c0 w i t a =
       one kind.TSInterfaceDeclaration (container_of container.TypeParameters x) c0 (among_if (not (is_one_of_kind kind.BindingIdentifier ch)) (container_of container.TypeParameters x ∷ []) c0 a)
       (plain_member kind.TSInterfaceDeclaration (container_of container.TypeParameters x) refl refl refl refl refl (λ e. let_in (not (is_one_of_kind kind.BindingIdentifier node)) (container_of container.TypeParameters x) (container_of container.TypeParameters x ∷ [])
@@ -207,6 +235,6 @@ module _ (s : SourceType) (x ch node : Node) (path : List Node) (outer : List Co
   member_of kind.TSEnumBody c0 w i t a = one kind.TSEnumBody (enum_members s x path outer) c0 a (by path)
     where
       by : (ps : List Node) → GroupMember kind.TSEnumBody x ch node (enum_members s x ps outer ∷ []) (enum_members s x ps outer)
-      by [] = record { node = refl; body = λ z. absurd (never (sym z)); no_global = refl; again = λ e z. inl refl; header = λ e z o. elim o [ inl y ↦ absurd (never (sym y)) | inr y ↦ absurd (never (sym y)) ] }
-      by (y ∷ ps) = record { node = refl; body = λ z. absurd (never (sym z)); no_global = refl; again = λ e z. inl refl; header = λ e z o. elim o [ inl y ↦ absurd (never (sym y)) | inr y ↦ absurd (never (sym y)) ] }
+      by [] = record { node = refl; body = λ z. absurd (never (sym z)); no_global = refl; again = λ e z w. inl refl; header = λ e z o. elim o [ inl y ↦ absurd (never (sym y)) | inr y ↦ absurd (never (sym y)) ] }
+      by (y ∷ ps) = record { node = refl; body = λ z. absurd (never (sym z)); no_global = refl; again = λ e z w. inl refl; header = λ e z o. elim o [ inl y ↦ absurd (never (sym y)) | inr y ↦ absurd (never (sym y)) ] }
   member_of _ c0 w i t a = absurd a

@@ -1,6 +1,6 @@
 -- At each place, the scope in which it stands is that of the container in which it declares.
-use Rattle.std.proofs.Common.{◌≡◌, ℕ, List, [], ◌∷◌, ◌++◌, Option, None, Bool, true, false, ◌&&◌, ◌||◌, not, cond, refl, sym, ap, subst, ◌∙◌, inl, inr, ◌⊎◌}
-use Rattle.std.proofs.lemmas.Bool.{not-true}
+use Rattle.std.proofs.Common.{◌≡◌, ℕ, suc, ◌+◌, ◌≤◌, List, [], ◌∷◌, ◌++◌, Option, None, Bool, true, false, ◌&&◌, ◌||◌, not, refl, sym, ap, subst, ◌∙◌, inl, inr, ◌⊎◌, arith}
+use Rattle.std.proofs.lemmas.Bool.{cases_Bool, not-true}
 use Rattle.semantic_syntax.proofs.Truth.{and_first, and_second}
 use Rattle.semantic_syntax.specs.declared.source_type.SourceType.{SourceType}
 use Rattle.semantic_kinds.specs.Classes.{holds_kind}
@@ -8,33 +8,44 @@ use Rattle.semantic_kinds.specs.Kinds.{same_kind}
 use Rattle.semantic_kinds.specs.declared.kind.AstType.TheVariants as kind
 use Rattle.semantic_kinds.specs.declared.role.Role.{Role}
 use Rattle.semantic_tree.specs.Faults.{first_fault}
-use Rattle.semantic_tree.specs.Forest.{Forest, nothing, tree}
-use Rattle.semantic_tree.specs.Tree.{Tree}
+use Rattle.semantic_tree.specs.Forest.{Forest, nothing, tree, count, numbered}
+use Rattle.semantic_tree.specs.Tree.{Tree, IsNumbered}
+use Rattle.semantic_tree.specs.Views.{is}
 use Rattle.semantic_tree.specs.declared.node.Node.{Node}
 use Rattle.semantic_model.specs.Cursor.{on_entering}
 use Rattle.semantic_model.specs.EachStep.{EachStep}
 use Rattle.semantic_model.specs.Entries.{Among}
-use Rattle.semantic_model.specs.Inside.{is_inside, is_in_header, is_parameter_decorator}
-use Rattle.semantic_model.specs.Place.{Place, OpenScope, innermost}
+use Rattle.semantic_model.specs.Inside.{is_inside, is_in_header}
+use Rattle.semantic_model.specs.Place.{Place, OpenScope, innermost, outside}
 use Rattle.semantic_model.specs.Step.{Step, entering, opening, header_ending, closing, leaving, steps, steps_below, root_place, child_place}
 use Rattle.semantic_model.proofs.form.ParameterChains.{is_open_inside}
+use Rattle.semantic_model.proofs.form.Clauses.{kind_is}
 use Rattle.semantic_model.proofs.form.Shape.{has_form}
 use Rattle.semantic_model.proofs.lists.Members.{among_cases}
 use Rattle.semantic_model.proofs.steps.EachStep.{EachOfTurn, each_left, each_of_node, each_of_turn, turn_of_each}
 use Rattle.semantic_model.proofs.steps.Turn.{Turn, turn_at}
 use Rattle.semantic_model.proofs.steps.TurnCases.{opening_case, ending_case, last_case}
+use Rattle.walk_model.proofs.once.NodeIds.{FirstNumbered, first_numbered, root_numbered}
 use Rattle.walk_model.proofs.places.Shapes.{holds_below}
-use Rattle.binding_laws.proofs.ChildChains.{ChainOf, outer_chain, inner_chain, OwnOf, own_of, chain_of}
-use Rattle.typescript_ties.specs.Containers.{Container, is_container, bound_container, is_of_signature, decorates_parameter, outside_function, containers_by, containers}
+use Rattle.typescript_ties.specs.Containers.{Container, is_container, bound_container, is_of_signature, outside_function, containers_by, containers}
 use Rattle.typescript_ties.specs.SimpleNames.{is_apart, is_common_child, is_common_forest, is_common}
 use Rattle.typescript_ties.specs.declared.container_kind.ContainerKind.TheVariants as container
+use Rattle.binding_laws.proofs.ChildChains.{ChainOf, outer_chain, inner_chain, OwnOf, own_of}
 use Rattle.typescript_ties.proofs.ChildPlaces.{same_truth, is_function, tells_inside, told_by_kind, tree_tells, tells_header, tree_headed}
 use Rattle.typescript_ties.proofs.GroupNodes.{stands_by}
-use Rattle.typescript_ties.proofs.Heads.{HeadOf, head_of}
+use Rattle.typescript_ties.proofs.Heads.{is_of_header, HeadOf, head_of}
+use Rattle.typescript_ties.proofs.OutsidePlaces.{decorated, plain_round, plain_chain, outer_round, decorator_has, child_out}
+use Rattle.typescript_ties.proofs.ParameterLists.{is_parameter_kind, is_list_kind, tells_decorator, stands_in_list, stands_deeper, tells_parameters, tree_parameters, AllBefore, before_later, before_append, outside_before}
 use Rattle.typescript_ties.proofs.UndeclaredFree.{OfEntered, IsEnteredIn, all_entered}
+use Rattle.typescript_ties.proofs.Unheaded.{is_unheaded, stands_unheaded, tree_unheaded, child_unheaded}
 
 never : true ≡ false → ⊥
 never h = absurd cc
+
+-- no type parameters on the way to a node stand directly in the program
+abbrev pub AreDeep : Node → List Node → Type 0
+AreDeep child [] = Unit {0}
+AreDeep child (f ∷ path) = (is kind.TSTypeParameterDeclaration child ≡ true → f.node_id ≡ 0 → ⊥) × AreDeep f path
 
 module _ (p : Tree) where
   abbrev s : SourceType
@@ -58,19 +69,31 @@ module _ (p : Tree) where
     pub among : Among c (containers_by place.node.kind s place.node place.path (round_place place) child)
     pub stands : c.node ≡ place.node.node_id
 
-  pub record HeadAt (q : Place) : Type 0 where
-    pub opener : (b : Bool) → is_apart (bound_container b (round_place q)).kind ≡ false → (innermost q.chain).opener ≡ (bound_container b (round_place q)).node
-    pub lasting : (b : Bool) → is_apart (bound_container b (round_place q)).kind ≡ false → (innermost q.chain).body ≡ None
-    pub in_body : (b : Bool) → is_container container.Body (bound_container b (round_place q)) ≡ true → (innermost q.chain).in_header ≡ false
-    pub in_header : (b : Bool) → is_container container.TypeParameters (bound_container b (round_place q)) ≡ true → IsHeaded (innermost q.chain)
-    pub among : (b : Bool) → is_apart (bound_container b (round_place q)).kind ≡ false → Among (bound_container b (round_place q)) (round_place q)
-    pub origin : (c : Container) → Among c (round_place q) → (is_apart c.kind ≡ true) ⊎ HasOrigin c
+  -- these scopes are those of the containers
+  pub record HeadIn (chain : List OpenScope) (cs : List Container) : Type 0 where
+    pub opener : (b : Bool) → is_apart (bound_container b cs).kind ≡ false → (innermost chain).opener ≡ (bound_container b cs).node
+    pub lasting : (b : Bool) → is_apart (bound_container b cs).kind ≡ false → (innermost chain).body ≡ None
+    pub in_body : (b : Bool) → is_container container.Body (bound_container b cs) ≡ true → (innermost chain).in_header ≡ false
+    pub in_header : (b : Bool) → is_of_header (bound_container b cs) ≡ true → IsHeaded (innermost chain)
+    pub among : (b : Bool) → is_apart (bound_container b cs).kind ≡ false → Among (bound_container b cs) cs
+    pub origin : (c : Container) → Among c cs → (is_apart c.kind ≡ true) ⊎ HasOrigin c
+
+  abbrev pub HeadAt : Place → Type 0
+  HeadAt q = HeadIn q.chain (round_place q)
 
   -- what is known of a place
   pub record IsCommonPlace (q : Place) : Type 0 where
     pub head : HeadAt q
     pub no_with : same_kind q.node.kind kind.WithStatement ≡ false
     pub source : q.source_type ≡ s
+    -- the containers stand at nodes before this one, but for the program's own
+    pub up_to : AllBefore (suc q.node.node_id) (round_place q)
+    pub later : same_kind q.node.kind kind.Program ≡ false → 1 ≤ q.node.node_id
+    pub deep : AreDeep q.node q.path
+    pub before : same_kind q.node.kind kind.Program ≡ false → AllBefore q.node.node_id (round_place q)
+    -- of a list of parameters, outside of the function
+    pub out : is_list_kind q.node.kind ≡ true → HeadIn (outside q.chain) (outside_function (round_place q))
+    pub unheaded : is_unheaded q.node.kind ≡ true → (innermost q.chain).in_header ≡ false
 
   abbrev pub CommonStep : Step → Type 0
   CommonStep (entering q) = IsCommonPlace q
@@ -83,7 +106,7 @@ module _ (p : Tree) where
 
   module _ (q : Place) (entered : Among (entering q) (steps p)) (k : IsCommonPlace q) (r : Role) (node : Node) (text : List ℕ)
       (chain : List OpenScope) (is_chain : ChainOf q.node.kind r q.node q.chain chain)
-      (tells : tells_inside q.node.kind r node.kind text ≡ true) (headed : tells_header q.node.kind r node.kind text ≡ true) (plain : decorates_parameter q.node node ≡ false) where
+      (tells : tells_inside q.node.kind r node.kind text ≡ true) (headed : tells_header q.node.kind r node.kind text ≡ true) where
     abbrev outer : List Container
     outer = round_place q
 
@@ -92,9 +115,6 @@ module _ (p : Tree) where
 
     abbrev inner : List Container
     inner = group ++ outer
-
-    child_round : containers s node (q.node ∷ q.path) ≡ inner
-    child_round = ap (λ b. cond b (outside_function outer) inner) plain
 
     header_is : is_function q.node.kind ≡ true → same_truth (is_in_header q.node.kind r) (is_of_signature node) ≡ true
     header_is f = go (is_function q.node.kind) f headed
@@ -162,9 +182,9 @@ module _ (p : Tree) where
       ]
     ]
 
-    in_header_at : (b : Bool) → is_container container.TypeParameters (head b) ≡ true → IsHeaded (innermost chain)
+    in_header_at : (b : Bool) → is_of_header (head b) ≡ true → IsHeaded (innermost chain)
     in_header_at b a = elim (heads b) [
-      | inl e ↦ kept (λ cs c. is_container container.TypeParameters c ≡ true → IsHeaded (innermost cs)) b (k.head.in_header b) e.0 e.1 a
+      | inl e ↦ kept (λ cs c. is_of_header c ≡ true → IsHeaded (innermost cs)) b (k.head.in_header b) e.0 e.1 a
       | inr e ↦ elim e [
         | inl f ↦ absurd (never (sym a ∙ f.no_header))
         | inr f ↦ own IsHeaded f.1 (λ o x y z. record {
@@ -196,51 +216,98 @@ module _ (p : Tree) where
       | inr b ↦ k.head.origin c b
     ]
 
-    pub child_head : (c : Place) → c.node ≡ node → c.path ≡ q.node ∷ q.path → c.chain ≡ chain → HeadAt c
-    child_head c e f g =
-        let same : round_place c ≡ inner = (λ i. containers s (e i) (f i)) ∙ child_round in
-        record {
-          opener = subst (λ cs. (b : Bool) → is_apart (bound_container b cs).kind ≡ false → (innermost c.chain).opener ≡ (bound_container b cs).node) (sym same) (subst (λ ch. (b : Bool) → is_apart (head b).kind ≡ false → (innermost ch).opener ≡ (head b).node) (sym g) opener_at);
-          lasting = subst (λ cs. (b : Bool) → is_apart (bound_container b cs).kind ≡ false → (innermost c.chain).body ≡ None) (sym same) (subst (λ ch. (b : Bool) → is_apart (head b).kind ≡ false → (innermost ch).body ≡ None) (sym g) lasting_at);
-          in_body = subst (λ cs. (b : Bool) → is_container container.Body (bound_container b cs) ≡ true → (innermost c.chain).in_header ≡ false) (sym same) (subst (λ ch. (b : Bool) → is_container container.Body (head b) ≡ true → (innermost ch).in_header ≡ false) (sym g) in_body_at);
-          in_header = subst (λ cs. (b : Bool) → is_container container.TypeParameters (bound_container b cs) ≡ true → IsHeaded (innermost c.chain)) (sym same) (subst (λ ch. (b : Bool) → is_container container.TypeParameters (head b) ≡ true → IsHeaded (innermost ch)) (sym g) in_header_at);
-          among = subst (λ cs. (b : Bool) → is_apart (bound_container b cs).kind ≡ false → Among (bound_container b cs) cs) (sym same) among_at;
-          origin = subst (λ cs. (d : Container) → Among d cs → (is_apart d.kind ≡ true) ⊎ HasOrigin d) (sym same) origin_at;
-        }
+    pub child_head : HeadIn chain inner
+    child_head = record { opener = opener_at; lasting = lasting_at; in_body = in_body_at; in_header = in_header_at; among = among_at; origin = origin_at }
+
+  -- ---- any child, be it a decorator
+
+  module _ (q : Place) (entered : Among (entering q) (steps p)) (k : IsCommonPlace q) (r : Role) (node : Node) (text : List ℕ) (own : Option OpenScope) (cursor : ℕ) (params : tells_parameters q.node.kind r node.kind text ≡ true)
+      (reached : is_inside q.node.kind r ≡ true → own ≡ None → ⊥) (own_is : OwnOf q own)
+      (tells : tells_inside q.node.kind r node.kind text ≡ true) (headed : tells_header q.node.kind r node.kind text ≡ true)
+      (no_with : same_kind node.kind kind.WithStatement ≡ false) (stands : stands_unheaded q.node.kind r node.kind text ≡ true) (later : suc q.node.node_id ≤ node.node_id) where
+    abbrev child : Place
+    child = child_place q own cursor r node
+
+    abbrev decorates : Bool
+    decorates = decorated s q r node text own cursor params reached own_is
+
+    abbrev around : List Container
+    around = containers_by q.node.kind s q.node q.path (round_place q) node
+
+    child_at : HeadAt child
+    child_at = elim (cases_Bool decorates) [
+      | inl e ↦ decorator_has s q r node text own cursor params reached own_is HeadIn k.out e
+      | inr e ↦ subst (HeadIn child.chain) (sym (plain_round s q r node text own cursor params reached own_is e)) (child_head q entered k r node text child.chain (plain_chain s q r node text own cursor params reached own_is e) tells headed)
+    ]
+
+    child_before : AllBefore node.node_id (round_place child)
+    child_before =
+        let outer : AllBefore node.node_id (round_place q) = before_later (suc q.node.node_id) node.node_id (round_place q) later k.up_to in
+        elim (cases_Bool decorates) [
+          | inl e ↦ subst (AllBefore node.node_id) (sym (outer_round s q r node text own cursor params reached own_is e)) (outside_before node.node_id (round_place q) outer)
+          | inr e ↦ subst (AllBefore node.node_id) (sym (plain_round s q r node text own cursor params reached own_is e))
+              (before_append node.node_id around (round_place q) (λ c a. (let w : c.node ≡ q.node.node_id = stands_by s q.node node q.path (round_place q) q.node.kind c a in omega (arith, w, later))) outer)
+        ]
+
+    child_deep : is kind.TSTypeParameterDeclaration node ≡ true → q.node.node_id ≡ 0 → ⊥
+    child_deep i z = go (same_kind q.node.kind kind.Program) refl (and_second (stands_in_list q.node.kind r node.kind) (stands_deeper q.node.kind node.kind) (and_second (tells_decorator q.node.kind r node.kind) (stands_in_list q.node.kind r node.kind && stands_deeper q.node.kind node.kind) params))
+      where
+        go : (b : Bool) → same_kind q.node.kind kind.Program ≡ b → (not b || not (holds_kind (kind.TSTypeParameterDeclaration ∷ []) node.kind)) ≡ true → ⊥
+        go true e h = never (sym h ∙ ap not (subst (λ j. holds_kind (kind.TSTypeParameterDeclaration ∷ []) j ≡ true) (sym (kind_is node.kind kind.TSTypeParameterDeclaration i)) refl))
+        go false e h = let w : 1 ≤ q.node.node_id = k.later e in absurd (omega (arith, w, z))
+
+    child_is_unheaded : is_unheaded node.kind ≡ true → (innermost child.chain).in_header ≡ false
+    child_is_unheaded u = elim (cases_Bool decorates) [
+      | inl e ↦ absurd (never (sym u ∙ subst (λ j. is_unheaded j ≡ false) (sym (kind_is node.kind kind.Decorator (and_second (is_parameter_kind q.node.kind) (same_kind node.kind kind.Decorator) e))) refl))
+      | inr e ↦ child_unheaded q.node.kind r node.kind text q.node q.chain child.chain k.unheaded stands (plain_chain s q r node text own cursor params reached own_is e) u
+    ]
+
+    pub child_common : IsCommonPlace child
+    child_common = record {
+      head = child_at;
+      no_with = no_with;
+      source = k.source;
+      up_to = before_later node.node_id (suc node.node_id) (round_place child) (omega arith) child_before;
+      later = λ e. omega (arith, later);
+      deep = (child_deep, k.deep);
+      before = λ e. child_before;
+      unheaded = child_is_unheaded;
+      out = child_out s q r node text own cursor params reached own_is HeadIn k.out k.before k.head;
+    }
 
   -- ---- all children
 
-  common_below : (q : Place) (own : Option OpenScope) (n cursor : ℕ) (f : Forest) → Among (entering q) (steps p) → IsCommonPlace q → OwnOf q own → is_common_forest q.node.kind f ≡ true → holds_below tells_inside q.node.kind f ≡ true → holds_below tells_header q.node.kind f ≡ true
+  common_below : (q : Place) (own : Option OpenScope) (n cursor : ℕ) (f : Forest) (j : ℕ) → Among (entering q) (steps p) → IsCommonPlace q → OwnOf q own → numbered j f ≡ f → suc q.node.node_id ≤ j → is_common_forest f ≡ true
+      → holds_below tells_inside q.node.kind f ≡ true → holds_below tells_header q.node.kind f ≡ true → holds_below tells_parameters q.node.kind f ≡ true → holds_below stands_unheaded q.node.kind f ≡ true
       → EachStep (OfEntered (IsEnteredIn (steps p))) (steps_below q own n cursor f) → EachStep CommonStep (steps_below q own n cursor f)
-  common_below q own n cursor nothing a k o c t h es = last_case (EachStep CommonStep) q own n tt (tt, (tt, tt))
-  common_below q own n cursor (tree r k2 span text marks below id after) a k o c t h es =
+  common_below q own n cursor nothing j a k o e l c t h i u es = last_case (EachStep CommonStep) q own n tt (tt, (tt, tt))
+  common_below q own n cursor (tree r k2 span text marks below id after) j a k o e l c t h i u es =
       let node : Node = record { kind = k2; span = span; text = text; marks = marks; children = below; node_id = id } in
       let turn : Turn = turn_at q own n cursor r node after in
       let entered : EachOfTurn (OfEntered (IsEnteredIn (steps p))) turn = turn_of_each (OfEntered (IsEnteredIn (steps p))) turn es in
-      let here : is_common_child q.node.kind r k2 ≡ true = and_first (is_common_child q.node.kind r k2) (is_common_forest k2 below && is_common_forest q.node.kind after) c in
-      let forests : (is_common_forest k2 below && is_common_forest q.node.kind after) ≡ true = and_second (is_common_child q.node.kind r k2) (is_common_forest k2 below && is_common_forest q.node.kind after) c in
-      let decorated : Bool = holds_kind (kind.FormalParameter ∷ kind.FormalParameterRest ∷ []) q.node.kind && same_kind k2 kind.Decorator in
-      let undecorated : (not (is_parameter_decorator q.node.kind r) && not decorated) ≡ true = and_second (not (same_kind k2 kind.WithStatement)) (not (is_parameter_decorator q.node.kind r) && not decorated) here in
+      let number : FirstNumbered j id below after = first_numbered j r k2 span text marks below id after e in
+      let forests : (is_common_forest below && is_common_forest after) ≡ true = and_second (is_common_child k2) (is_common_forest below && is_common_forest after) c in
       let tells : (holds_below tells_inside k2 below && holds_below tells_inside q.node.kind after) ≡ true = and_second (tells_inside q.node.kind r k2 text) (holds_below tells_inside k2 below && holds_below tells_inside q.node.kind after) t in
       let headed : (holds_below tells_header k2 below && holds_below tells_header q.node.kind after) ≡ true = and_second (tells_header q.node.kind r k2 text) (holds_below tells_header k2 below && holds_below tells_header q.node.kind after) h in
+      let params : (holds_below tells_parameters k2 below && holds_below tells_parameters q.node.kind after) ≡ true = and_second (tells_parameters q.node.kind r k2 text) (holds_below tells_parameters k2 below && holds_below tells_parameters q.node.kind after) i in
+      let unheaded : (holds_below stands_unheaded k2 below && holds_below stands_unheaded q.node.kind after) ≡ true = and_second (stands_unheaded q.node.kind r k2 text) (holds_below stands_unheaded k2 below && holds_below stands_unheaded q.node.kind after) u in
       let own_is : OwnOf q turn.scope = own_of q r own n o in
-      let child : IsCommonPlace turn.child = record {
-        head = child_head q a k r node text (child_place q turn.scope cursor r node).chain
-            (chain_of q r turn.scope cursor node (not-true (is_parameter_decorator q.node.kind r) (and_first (not (is_parameter_decorator q.node.kind r)) (not decorated) undecorated)) (is_open_inside q r own n) own_is)
-            (and_first (tells_inside q.node.kind r k2 text) (holds_below tells_inside k2 below && holds_below tells_inside q.node.kind after) t)
-            (and_first (tells_header q.node.kind r k2 text) (holds_below tells_header k2 below && holds_below tells_header q.node.kind after) h)
-            (not-true decorated (and_second (not (is_parameter_decorator q.node.kind r)) (not decorated) undecorated))
-            turn.child refl refl refl;
-        no_with = not-true (same_kind k2 kind.WithStatement) (and_first (not (same_kind k2 kind.WithStatement)) (not (is_parameter_decorator q.node.kind r) && not decorated) here);
-        source = k.source;
-      } in
+      let child : IsCommonPlace turn.child = child_common q a k r node text turn.scope cursor
+      (and_first (tells_parameters q.node.kind r k2 text) (holds_below tells_parameters k2 below && holds_below tells_parameters q.node.kind after) i)
+      (is_open_inside q r own n) own_is
+      (and_first (tells_inside q.node.kind r k2 text) (holds_below tells_inside k2 below && holds_below tells_inside q.node.kind after) t)
+      (and_first (tells_header q.node.kind r k2 text) (holds_below tells_header k2 below && holds_below tells_header q.node.kind after) h)
+      (not-true (same_kind k2 kind.WithStatement) (and_first (is_common_child k2) (is_common_forest below && is_common_forest after) c))
+      (and_first (stands_unheaded q.node.kind r k2 text) (holds_below stands_unheaded k2 below && holds_below stands_unheaded q.node.kind after) u) (omega (arith, number.first, l)) in
       each_of_turn CommonStep turn (record {
         before = opening_case (EachStep CommonStep) q r own n tt (tt, tt);
         whole = each_of_node CommonStep turn.child turn.below child
-            (common_below turn.child None turn.next turn.inner below entered.whole.0 child tt (and_first (is_common_forest k2 below) (is_common_forest q.node.kind after) forests) (and_first (holds_below tells_inside k2 below) (holds_below tells_inside q.node.kind after) tells) (and_first (holds_below tells_header k2 below) (holds_below tells_header q.node.kind after) headed)
+            (common_below turn.child None turn.next turn.inner below (j + 1) entered.whole.0 child tt number.inner (omega (arith, number.first)) (and_first (is_common_forest below) (is_common_forest after) forests) (and_first (holds_below tells_inside k2 below) (holds_below tells_inside q.node.kind after) tells)
+            (and_first (holds_below tells_header k2 below) (holds_below tells_header q.node.kind after) headed) (and_first (holds_below tells_parameters k2 below) (holds_below tells_parameters q.node.kind after) params) (and_first (holds_below stands_unheaded k2 below) (holds_below stands_unheaded q.node.kind after) unheaded)
             (each_left (OfEntered (IsEnteredIn (steps p))) turn.below (leaving turn.child ∷ []) entered.whole.1)) tt;
         behind = ending_case (EachStep CommonStep) q r turn.scope after tt (λ o. (tt, tt)) (λ o. (tt, tt)) (λ o. (tt, (tt, tt)));
-        others = common_below q turn.scope turn.rest turn.past after a k own_is (and_second (is_common_forest k2 below) (is_common_forest q.node.kind after) forests) (and_second (holds_below tells_inside k2 below) (holds_below tells_inside q.node.kind after) tells) (and_second (holds_below tells_header k2 below) (holds_below tells_header q.node.kind after) headed) entered.others;
+        others = common_below q turn.scope turn.rest turn.past after (j + 1 + count below) a k own_is number.others (omega (arith, l)) (and_second (is_common_forest below) (is_common_forest after) forests) (and_second (holds_below tells_inside k2 below) (holds_below tells_inside q.node.kind after) tells)
+            (and_second (holds_below tells_header k2 below) (holds_below tells_header q.node.kind after) headed) (and_second (holds_below tells_parameters k2 below) (holds_below tells_parameters q.node.kind after) params) (and_second (holds_below stands_unheaded k2 below) (holds_below stands_unheaded q.node.kind after) unheaded) entered.others;
       })
 
   root_common : first_fault p ≡ None → IsCommonPlace (root_place p)
@@ -255,6 +322,12 @@ module _ (p : Tree) where
     };
     no_with = subst (λ k. same_kind k kind.WithStatement ≡ false) (sym (has_form p h).root) refl;
     source = refl;
+    up_to = (omega arith, tt);
+    later = λ e. absurd (never (sym (ap (λ k. same_kind k kind.Program) (has_form p h).root) ∙ e));
+    deep = tt;
+    before = λ e. absurd (never (sym (ap (λ k. same_kind k kind.Program) (has_form p h).root) ∙ e));
+    out = λ e. absurd (never (sym (subst (λ k. is_list_kind k ≡ true) (has_form p h).root e)));
+    unheaded = λ e. refl;
   }
     where
       at : (b : Bool) → is_apart (bound_container b (round_place (root_place p))).kind ≡ false → true ≡ false
@@ -265,15 +338,16 @@ module _ (p : Tree) where
       no_body true e = e
       no_body false e = e
 
-      no_header : (b : Bool) → is_container container.TypeParameters (bound_container b (round_place (root_place p))) ≡ true → false ≡ true
+      no_header : (b : Bool) → is_of_header (bound_container b (round_place (root_place p))) ≡ true → false ≡ true
       no_header true e = e
       no_header false e = e
 
-  pub common_places : first_fault p ≡ None → is_common p ≡ true → EachStep CommonStep (steps p)
-  common_places h c =
+  pub common_places : first_fault p ≡ None → is_common p ≡ true → IsNumbered p.root → EachStep CommonStep (steps p)
+  common_places h c e =
       let root : Place = root_place p in
       let n : ℕ = on_entering p.root.kind 0 in
       let below : List Step = steps_below root None 0 n p.root.children in
       let es : EachStep (OfEntered (IsEnteredIn (steps p))) (steps p) = all_entered (steps p) (steps p) (λ st a. a) in
+      let number : (p.root.node_id ≡ 0) × (numbered 1 p.root.children ≡ p.root.children) = root_numbered p e in
       each_of_node CommonStep root below (root_common h)
-      (common_below root None 0 n p.root.children es.0 (root_common h) tt c (tree_tells p h) (tree_headed p h) (each_left (OfEntered (IsEnteredIn (steps p))) below (leaving root ∷ []) es.1)) tt
+      (common_below root None 0 n p.root.children 1 es.0 (root_common h) tt number.1 (omega (arith, number.0)) c (tree_tells p h) (tree_headed p h) (tree_parameters p h) (tree_unheaded p h) (each_left (OfEntered (IsEnteredIn (steps p))) below (leaving root ∷ []) es.1)) tt

@@ -1,5 +1,5 @@
 -- The scope in which a node stands, and the container in which it declares.
-use Rattle.std.proofs.Common.{◌≡◌, List, [], ◌∷◌, ◌++◌, Some, Bool, true, false, not, cond, refl, sym, subst, ◌∙◌, inl, inr, ◌⊎◌}
+use Rattle.std.proofs.Common.{◌≡◌, List, [], ◌∷◌, ◌++◌, Some, Bool, true, false, ◌||◌, not, cond, refl, sym, subst, ◌∙◌, inl, inr, ◌⊎◌}
 use Rattle.std.proofs.lemmas.Bool.{cases_Bool, not-true}
 use Rattle.semantic_syntax.specs.declared.source_type.SourceType.{SourceType}
 use Rattle.semantic_kinds.specs.Kinds.{same_kind}
@@ -39,24 +39,28 @@ pub false_not : (d : Bool) → not d ≡ false → d ≡ true
 false_not true h = refl
 false_not false h = absurd (never h)
 
+-- what is seen in a header: type parameters, parameters and the own name
+abbrev pub is_of_header : Container → Bool
+is_of_header c = is_container container.TypeParameters c || (is_container container.Parameters c || is_container container.OwnName c)
+
 -- what is known of the container in which a child of a node declares
 pub record HeadFacts (k : AstType) (x child : Node) (g : List Container) (c : Container) : Type 0 where
   pub node : c.node ≡ x.node_id
   pub no_clause : same_kind k kind.CatchClause ≡ false
   pub in_body : is_container container.Body c ≡ true → (is_function k ≡ true) × (is_of_signature child ≡ false)
-  pub in_header : is_container container.TypeParameters c ≡ true → is_function k ≡ true → is_of_signature child ≡ true
+  pub in_header : is_of_header c ≡ true → is_function k ≡ true → is_of_signature child ≡ true
   pub among : Among c g
 
 pub record IsApartHead (c : Container) : Type 0 where
   pub apart : is_apart c.kind ≡ true
   pub no_body : is_container container.Body c ≡ false
-  pub no_header : is_container container.TypeParameters c ≡ false
+  pub no_header : is_of_header c ≡ false
 
 -- a child declares in its parent's container, or apart, or in one of these
 abbrev pub HeadOf : AstType → Role → Node → Node → List Container → Container → Type 0
 HeadOf k r x child g c = ((g ≡ []) × (is_inside k r ≡ false)) ⊎ (IsApartHead c ⊎ (HeadFacts k x child g c × (is_inside k r ≡ true)))
 
-simple_facts : (k : AstType) (x child : Node) (c : Container) (rest : List Container) → c.node ≡ x.node_id → same_kind k kind.CatchClause ≡ false → is_container container.Body c ≡ false → (is_container container.TypeParameters c ≡ true → is_function k ≡ true → is_of_signature child ≡ true) → HeadFacts k x child (c ∷ rest) c
+simple_facts : (k : AstType) (x child : Node) (c : Container) (rest : List Container) → c.node ≡ x.node_id → same_kind k kind.CatchClause ≡ false → is_container container.Body c ≡ false → (is_of_header c ≡ true → is_function k ≡ true → is_of_signature child ≡ true) → HeadFacts k x child (c ∷ rest) c
 simple_facts k x child c rest n d b t = record { node = n; no_clause = d; in_body = λ q. absurd (never (sym q ∙ b)); in_header = t; among = inl refl }
 
 module _ (s : SourceType) (x child : Node) (path : List Node) (outer : List Container) (r : Role) (b : Bool) (cs : List Container) where
@@ -65,18 +69,18 @@ module _ (s : SourceType) (x child : Node) (path : List Node) (outer : List Cont
 
   -- a group of one, or one that begins so
   single : (k : AstType) (c : Container) (rest : List Container) → is_inside k r ≡ true → c.node ≡ x.node_id → same_kind k kind.CatchClause ≡ false → is_container container.ModuleBlock c ≡ false → is_container container.Body c ≡ false
-      → (is_container container.TypeParameters c ≡ true → is_function k ≡ true → is_of_signature child ≡ true) → Head k (c ∷ rest)
+      → (is_of_header c ≡ true → is_function k ≡ true → is_of_signature child ≡ true) → Head k (c ∷ rest)
   single k c rest i n d m y t = inr (inr (subst (HeadFacts k x child (c ∷ rest)) (sym (head_one b c (rest ++ cs) m)) (simple_facts k x child c rest n d y t), i))
 
   apart : (k : AstType) (c : Container) (rest : List Container) → is_container container.ModuleBlock c ≡ false → IsApartHead c → Head k (c ∷ rest)
   apart k c rest m e = inr (inl (subst IsApartHead (sym (head_one b c (rest ++ cs) m)) e))
 
-  is_so : (c : Container) → is_apart c.kind ≡ true → is_container container.Body c ≡ false → is_container container.TypeParameters c ≡ false → IsApartHead c
+  is_so : (c : Container) → is_apart c.kind ≡ true → is_container container.Body c ≡ false → is_of_header c ≡ false → IsApartHead c
   is_so c e f g = record { apart = e; no_body = f; no_header = g }
 
   -- a block's own and its members
   double : (k : AstType) (c d : Container) → is_inside k r ≡ true → c.node ≡ x.node_id → d.node ≡ x.node_id → same_kind k kind.CatchClause ≡ false
-      → is_container container.ModuleBlock c ≡ true → is_container container.Body c ≡ false → is_container container.Body d ≡ false → is_container container.TypeParameters c ≡ false → is_container container.TypeParameters d ≡ false → Head k (c ∷ d ∷ [])
+      → is_container container.ModuleBlock c ≡ true → is_container container.Body c ≡ false → is_container container.Body d ≡ false → is_of_header c ≡ false → is_of_header d ≡ false → Head k (c ∷ d ∷ [])
   double k c d i n o e m y z t u = inr (inr (by b, i))
     where
       first : HeadFacts k x child (c ∷ d ∷ []) c
@@ -106,7 +110,7 @@ module _ (s : SourceType) (x child : Node) (path : List Node) (outer : List Cont
     where
       by : (t : Bool) → Head k (cond t [] (container_of container.Parameters x ∷ []) ++ container_of container.TypeParameters x ∷ [])
       by true = single k (container_of container.TypeParameters x) [] i refl d refl refl (λ q w. absurd (never (sym w ∙ f)))
-      by false = apart k (container_of container.Parameters x) (container_of container.TypeParameters x ∷ []) refl (is_so (container_of container.Parameters x) refl refl refl)
+      by false = single k (container_of container.Parameters x) (container_of container.TypeParameters x ∷ []) i refl d refl refl (λ q w. absurd (never (sym w ∙ f)))
 
   function_head : (k : AstType) → is_inside k r ≡ true → same_kind k kind.CatchClause ≡ false → is_function k ≡ true → Head k (function_containers x child)
   function_head k i d f = by (is_of_signature child) (is kind.TSTypeParameterDeclaration child) refl
@@ -114,7 +118,7 @@ module _ (s : SourceType) (x child : Node) (path : List Node) (outer : List Cont
       by : (t u : Bool) → is_of_signature child ≡ t → Head k (cond t [] (container_of container.Body x ∷ []) ++ (cond u [] (container_of container.Parameters x ∷ []) ++ container_of container.TypeParameters x ∷ []) ++ container_of container.OwnName x ∷ [])
       by false u e = inr (inr (subst (HeadFacts k x child _) (sym (head_one b (container_of container.Body x) _ refl)) (record { node = refl; no_clause = d; in_body = λ q. (f, e); in_header = λ q. absurd (never (sym q)); among = inl refl }), i))
       by true true e = single k (container_of container.TypeParameters x) (container_of container.OwnName x ∷ []) i refl d refl refl (λ q w. e)
-      by true false e = apart k (container_of container.Parameters x) (container_of container.TypeParameters x ∷ container_of container.OwnName x ∷ []) refl (is_so (container_of container.Parameters x) refl refl refl)
+      by true false e = single k (container_of container.Parameters x) (container_of container.TypeParameters x ∷ container_of container.OwnName x ∷ []) i refl d refl refl (λ q w. e)
 
   none_head : (k : AstType) → is_inside k r ≡ false → Head k []
   none_head k i = inl (refl, i)

@@ -1,7 +1,7 @@
 -- A name that isn't tangled has the members to itself among which it is one.
-use Rattle.std.proofs.Common.{◌≡◌, ℕ, ◌==◌, List, [], ◌∷◌, Option, Some, None, true, false, ◌&&◌, not, refl, sym, ap, subst, ◌∙◌, inl, inr, ◌⊎◌, bytes_eq, codes, filter}
+use Rattle.std.proofs.Common.{◌≡◌, ℕ, ◌==◌, [], ◌∷◌, Option, Some, None, true, false, ◌&&◌, refl, sym, ap, subst, ◌∙◌, inl, inr, ◌⊎◌, bytes_eq, codes, List}
 use Rattle.std.specs.Prelude.{slice_get}
-use Rattle.std.proofs.lemmas.Bool.{and_from, eq-eqb, not-true}
+use Rattle.std.proofs.lemmas.Bool.{and_from}
 use Rattle.std.proofs.lemmas.Bool.Decides.{eqb_tells}
 use Rattle.semantic_syntax.proofs.Truth.{and_first, and_second}
 use Rattle.semantic_kinds.specs.declared.kind.AstType.TheVariants as kind
@@ -15,40 +15,34 @@ use Rattle.semantic_tree.specs.Faults.{first_fault}
 use Rattle.semantic_tree.specs.Tree.{Tree, IsNumbered}
 use Rattle.semantic_tree.specs.Views.{child_of}
 use Rattle.semantic_tree.specs.declared.node.Node.{Node}
-use Rattle.semantic_model.specs.Binding.{get}
-use Rattle.semantic_model.specs.Declaration.{Declaration}
 use Rattle.semantic_model.specs.Entries.{Among}
 use Rattle.semantic_model.specs.Event.{events}
-use Rattle.semantic_model.specs.Fold.{State, Made, start, flags_of}
+use Rattle.semantic_model.specs.Fold.{State, start}
 use Rattle.semantic_model.specs.Hoist.{run}
 use Rattle.semantic_model.specs.Place.{Place}
 use Rattle.semantic_model.specs.Step.{entering, steps}
-use Rattle.semantic_model.specs.TablesOf.{tables_of, evals, made_of}
-use Rattle.semantic_model.specs.Tie.{seen_as}
+use Rattle.semantic_model.specs.TablesOf.{tables_of, evals}
 use Rattle.semantic_model.proofs.bindings.Owned.{kept_program}
 use Rattle.semantic_model.proofs.bindings.Owners.{IsSymbolOf}
 use Rattle.semantic_model.proofs.form.Shape.{has_form}
 use Rattle.semantic_model.proofs.lists.BindingLaws.{get_among}
 use Rattle.semantic_model.proofs.lists.Members.{among_at}
 use Rattle.semantic_model.proofs.once.ListedUnder.{name_tells}
-use Rattle.binding_laws.specs.SeenDeclarations.{bound_by_all}
 use Rattle.tangle_model.specs.Mention.{Mention, noted_by, noted_at, mentions}
 use Rattle.tangle_model.specs.Surroundings.{around_under}
 use Rattle.tangle_model.specs.Tangled.{merged_openers, is_merged_member, any_symbol}
 use Rattle.typescript_ties.specs.Containers.{Container, MemberPath, same_container_kind, same_names, same_members, same_container, path_below, containers}
 use Rattle.typescript_ties.specs.NamedDeclarations.{NamedDeclaration, named_in}
-use Rattle.typescript_ties.specs.SeenTogether.{is_in_scope}
-use Rattle.typescript_ties.specs.SimpleNames.{is_common, is_simple_sort, is_apart, IsSimplyDeclared, HasOwnMembers, HasOwnEnums}
+use Rattle.typescript_ties.specs.SimpleNames.{is_common, is_apart, IsSimplyDeclared, HasOwnMembers}
 use Rattle.typescript_ties.specs.declared.container_kind.ContainerKind.TheVariants as container
-use Rattle.typescript_ties.proofs.AgreedPlaces.{among_filter, filter_among, any_there}
-use Rattle.typescript_ties.proofs.FitsTogether.{AreBoundAs, bound_as_one}
+use Rattle.typescript_ties.proofs.AgreedPlaces.{any_there}
+use Rattle.typescript_ties.proofs.EnumBodies.{IsEnumOf, enum_of}
 use Rattle.typescript_ties.proofs.HeadPlaces.{HasOrigin, CommonStep, common_places, round_place}
 use Rattle.typescript_ties.proofs.MergedBlocks.{block_of, merged_opener, opened_node}
 use Rattle.typescript_ties.proofs.Pairs.{container_kind_is}
-use Rattle.typescript_ties.proofs.PlainFold.{PlainState}
 use Rattle.typescript_ties.proofs.SharedMembers.{MemberSort, unshared, of_namespace, of_module, of_globals, of_enum, member_sort}
-use Rattle.typescript_ties.proofs.SimpleDeclarations.{of_language, made_so, is_plain, one_symbol, flat_among}
-use Rattle.typescript_ties.proofs.TiedTogether.{in_end}
+use Rattle.typescript_ties.proofs.SimpleOnes.{is_not_apart}
+use Rattle.typescript_ties.proofs.SimpleDeclarations.{of_language, made_so, clear_state, flat_among}
 use Rattle.typescript_ties.proofs.UndeclaredFree.{each_among}
 
 never : true ≡ false → ⊥
@@ -76,13 +70,10 @@ first_name a b c d (Some m) (Some n) h = name_is a b (and_first (bytes_eq a b) (
     name_is : (a b : Name) → bytes_eq a b ≡ true → a ≡ b
     name_is a b e = elim (name_tells a b) [ inl i ↦ i.1 | inr i ↦ absurd (never (sym e ∙ i.0)) ]
 
-module _ (p : Tree) (h : first_fault p ≡ None) (common : is_common p ≡ true) (typed : is_typescript p.source_type ≡ true) (numbered : IsNumbered p.root) (x : Name) (simply : IsSimplyDeclared p x) (enums : HasOwnEnums p x)
+module _ (p : Tree) (h : first_fault p ≡ None) (common : is_common p ≡ true) (typed : is_typescript p.source_type ≡ true) (numbered : IsNumbered p.root) (x : Name) (simply : IsSimplyDeclared p x)
     (unmerged : any_symbol (is_merged_member (mentions p) (tables_of p)) (tables_of p).symbols x ≡ false) where
   abbrev final : State
   final = run start (events (steps p))
-
-  plain : PlainState x final
-  plain = in_end p h x (is_plain p h common typed numbered x simply)
 
   -- the symbol of a declaration is one of the scope that its container's node opens
   record IsOf (node : ℕ) : Type 0 where
@@ -98,7 +89,7 @@ module _ (p : Tree) (h : first_fault p ≡ None) (common : is_common p ≡ true)
       let (y, made) = made_so p h common typed numbered x simply d both.among in
       let c : ℕ = d.route.target.number in
       let named : d.naming.name ≡ x = ap (λ t. t.name) both.told ∙ e in
-      let w : IsSymbolOf final.symbols c x y = (kept_program p (has_form p h)).owned (record { scope = c; name = x; symbol = y }) (get_among final.bindings c x y (bound_own d y made named)) in
+      let w : IsSymbolOf final.symbols c x y = (kept_program p (has_form p h)).owned (record { scope = c; name = x; symbol = y }) (get_among final.bindings c x y ((clear_state p h common typed numbered x simply).same (record { declaration = d; symbol = y }) made named)) in
       record {
         symbol = w.symbol;
         number = y;
@@ -106,33 +97,6 @@ module _ (p : Tree) (h : first_fault p ≡ None) (common : is_common p ≡ true)
         named = w.named;
         stands = ap (λ z. (scope_of (tables_of p) z).node) w.stands ∙ opened_node (evals (steps p)) (steps p) c d.route.target.opener both.opened ∙ both.pair.home.opener;
       }
-    where
-      bound_own : (d : Declaration) (y : ℕ) → Among (record { declaration = d; symbol = y }) (made_of p) → d.naming.name ≡ x → get final.bindings d.route.target.number x ≡ Some y
-      bound_own d y a named = by (filter (is_in_scope c x) (made_of p)) refl (get final.bindings c x) (plain.counted c)
-        where
-          c : ℕ
-          c = d.route.target.number
-
-          all_one : (z : Made) → Among z (filter (is_in_scope c x) (made_of p)) → z.symbol ≡ y
-          all_one z b =
-              let (i, j) = among_filter (is_in_scope c x) (made_of p) z b in
-              let number : z.declaration.route.target.number ≡ c = elim (eqb_tells z.declaration.route.target.number c) [ inl k ↦ k.1 | inr k ↦ absurd (never (sym (and_first (z.declaration.route.target.number == c) (bytes_eq z.declaration.naming.name x) j) ∙ k.0)) ] in
-              let z_named : z.declaration.naming.name ≡ x = elim (name_tells z.declaration.naming.name x) [ inl k ↦ k.1 | inr k ↦ absurd (never (sym (and_second (z.declaration.route.target.number == c) (bytes_eq z.declaration.naming.name x) j) ∙ k.0)) ] in
-              one_symbol p h common typed numbered x simply z (record { declaration = d; symbol = y }) i a z_named named number
-
-          own_there : Among {A = Made} (record { declaration = d; symbol = y }) (filter (is_in_scope c x) (made_of p))
-          own_there = filter_among (is_in_scope c x) (made_of p) (record { declaration = d; symbol = y }) a (and_from (c == c) (bytes_eq d.naming.name x) (eq-eqb c c refl) (elim (name_tells d.naming.name x) [ inl j ↦ j.0 | inr j ↦ absurd (j.1 named) ]))
-
-          of_seen : (o : Option ℕ) (f : ℕ) → seen_as final o ≡ Some (record { symbol = y; flags = f }) → o ≡ Some y
-          of_seen None f j = absurd cc
-          of_seen (Some v) f j = ap Some (ap (λ (s : Seen). s.symbol) (seen_is (record { symbol = v; flags = flags_of final v }) (record { symbol = y; flags = f }) j))
-
-          by : (l : List Made) → filter (is_in_scope c x) (made_of p) ≡ l → (o : Option ℕ) → seen_as final o ≡ bound_by_all (filter (is_in_scope c x) (made_of p)) → o ≡ Some y
-          by [] e o i = absurd (subst (Among {A = Made} (record { declaration = d; symbol = y })) e own_there)
-          by (z ∷ zs) e o i =
-              let all : (v : Made) → Among v (z ∷ zs) → v.symbol ≡ y = λ v b. all_one v (subst (Among v) (sym e) b) in
-              let together : AreBoundAs (z ∷ zs) y = bound_as_one z zs y all in
-              of_seen o together.flags (i ∙ ap bound_by_all e ∙ together.bound)
 
   -- so two blocks of one name are one where they have it
   same_block : (node other : ℕ) (name : Name) → IsOf node → Among (block_of node name) (mentions p) → Among (block_of other name) (mentions p) → node ≡ other
@@ -158,6 +122,14 @@ module _ (p : Tree) (h : first_fault p ≡ None) (common : is_common p ≡ true)
   global_noted : (q : Place) → Among (entering q) (steps p) → q.node.kind ≡ kind.TSGlobalDeclaration → Among (block_of q.node.node_id (codes "global")) (mentions p)
   global_noted q a k = noted q (block_of q.node.node_id (codes "global")) a (subst (λ z. Among (block_of q.node.node_id (codes "global")) (noted_by z (around_under p.source_type q.path) q.node)) (sym k) (inl refl))
 
+  enum_noted : (q : Place) → Among (entering q) (steps p) → q.node.kind ≡ kind.TSEnumBody → (y : Node) (above : List Node) → q.path ≡ y ∷ above → (id : Node) → child_of role.Id y ≡ Some id → Among (block_of q.node.node_id id.text) (mentions p)
+  enum_noted q a k y above e id i =
+      let enum : IsEnumOf p q y = enum_of p h q a k y above e in
+      let is_enum : enum.place.node.kind ≡ kind.TSEnumDeclaration = ap (λ z. z.kind) enum.node ∙ enum.kind in
+      let named : child_of role.Id enum.place.node ≡ Some id = ap (child_of role.Id) enum.node ∙ i in
+      let body : child_of role.Body enum.place.node ≡ Some q.node = ap (child_of role.Body) enum.node ∙ enum.body in
+      noted enum.place (block_of q.node.node_id id.text) enum.entered (subst (λ z. Among (block_of q.node.node_id id.text) (noted_by z (around_under p.source_type enum.place.path) enum.place.node)) (sym is_enum) (rw (named, body) (inl refl)))
+
   -- ---- members
 
   module _ (n : NamedDeclaration) (a : Among n (named_in p)) (e : n.name ≡ x) (q : Place) (entered : Among (entering q) (steps p)) (c : Container) (there : Among c (containers p.source_type q.node q.path)) (same : same_container n.container c ≡ true) where
@@ -168,13 +140,13 @@ module _ (p : Tree) (h : first_fault p ≡ None) (common : is_common p ≡ true)
     members = and_second (same_container_kind n.container.kind c.kind) (same_members n.container c n.container.members c.members) same
 
     free : is_apart n.container.kind ≡ false
-    free = not-true (is_apart n.container.kind) (and_second (is_simple_sort n.sort) (not (is_apart n.container.kind)) (simply n a e))
+    free = is_not_apart n (simply.each n a e)
 
     mine : HasOrigin p n.container
     mine = (of_language p h common typed numbered x simply n a e).1.pair.home.origin
 
     theirs : HasOrigin p c
-    theirs = by ((each_among (CommonStep p) (steps p) (entering q) (common_places p h common) entered).head.origin c there)
+    theirs = by ((each_among (CommonStep p) (steps p) (entering q) (common_places p h common numbered) entered).head.origin c there)
       where
         by : (is_apart c.kind ≡ true) ⊎ HasOrigin p c → HasOrigin p c
         by (inl i) = absurd (never (sym i ∙ ap is_apart (sym kinds) ∙ free))
@@ -208,27 +180,32 @@ module _ (p : Tree) (h : first_fault p ≡ None) (common : is_common p ≡ true)
     pub same_node : n.container.node ≡ c.node
     same_node = by (member_sort p.source_type mine.place.node mine.child mine.place.path (round_place p mine.place) mine.place.node.kind n.container mine.among) (member_sort p.source_type theirs.place.node theirs.child theirs.place.path (round_place p theirs.place) theirs.place.node.kind c theirs.among)
       where
-        by : MemberSort mine.place.node.kind mine.place.node n.container → MemberSort theirs.place.node.kind theirs.place.node c → n.container.node ≡ c.node
+        by : MemberSort mine.place.node.kind mine.place.node mine.place.path n.container → MemberSort theirs.place.node.kind theirs.place.node theirs.place.path c → n.container.node ≡ c.node
         by (unshared i) s = by_node i
         by (of_namespace k i id f d g) (unshared j) = by_their_node j
         by (of_namespace k i id f d g) (of_namespace k' i' id' f' d' g') =
             one_block id.text id'.text (first_name id.text id'.text d d' d.members d'.members (names_same (path_below id.text d d.members) (path_below id'.text d' d'.members) g g')) (namespace_noted mine.place mine.entered k id f) (namespace_noted theirs.place theirs.entered k' id' f')
         by (of_namespace k i id f d g) (of_module k' i' id' f' d' g') = absurd (let z : container.NamespaceMembers ≡ container.ModuleMembers = sym i ∙ kinds ∙ i' in absurd cc)
         by (of_namespace k i id f d g) (of_globals k' i') = absurd (let z : container.NamespaceMembers ≡ container.GlobalMembers = sym i ∙ kinds ∙ i' in absurd cc)
-        by (of_namespace k i id f d g) (of_enum i') = absurd (let z : container.NamespaceMembers ≡ container.EnumMembers = sym i ∙ kinds ∙ i' in absurd cc)
+        by (of_namespace k i id f d g) (of_enum k' i' y' a' e' id' f' d' g') = absurd (let z : container.NamespaceMembers ≡ container.EnumMembers = sym i ∙ kinds ∙ i' in absurd cc)
         by (of_module k i id f d g) (unshared j) = by_their_node j
         by (of_module k i id f d g) (of_module k' i' id' f' d' g') =
             one_block id.text id'.text (rest_same id.text id'.text (first_name (39 ∷ id.text) (39 ∷ id'.text) d d' d.members d'.members (names_same (path_below (39 ∷ id.text) d d.members) (path_below (39 ∷ id'.text) d' d'.members) g g')))
             (module_noted mine.place mine.entered k id f) (module_noted theirs.place theirs.entered k' id' f')
         by (of_module k i id f d g) (of_namespace k' i' id' f' d' g') = absurd (let z : container.ModuleMembers ≡ container.NamespaceMembers = sym i ∙ kinds ∙ i' in absurd cc)
         by (of_module k i id f d g) (of_globals k' i') = absurd (let z : container.ModuleMembers ≡ container.GlobalMembers = sym i ∙ kinds ∙ i' in absurd cc)
-        by (of_module k i id f d g) (of_enum i') = absurd (let z : container.ModuleMembers ≡ container.EnumMembers = sym i ∙ kinds ∙ i' in absurd cc)
+        by (of_module k i id f d g) (of_enum k' i' y' a' e' id' f' d' g') = absurd (let z : container.ModuleMembers ≡ container.EnumMembers = sym i ∙ kinds ∙ i' in absurd cc)
         by (of_globals k i) (unshared j) = by_their_node j
         by (of_globals k i) (of_globals k' i') = one_block (codes "global") (codes "global") refl (global_noted mine.place mine.entered k) (global_noted theirs.place theirs.entered k')
         by (of_globals k i) (of_namespace k' i' id' f' d' g') = absurd (let z : container.GlobalMembers ≡ container.NamespaceMembers = sym i ∙ kinds ∙ i' in absurd cc)
         by (of_globals k i) (of_module k' i' id' f' d' g') = absurd (let z : container.GlobalMembers ≡ container.ModuleMembers = sym i ∙ kinds ∙ i' in absurd cc)
-        by (of_globals k i) (of_enum i') = absurd (let z : container.GlobalMembers ≡ container.EnumMembers = sym i ∙ kinds ∙ i' in absurd cc)
-        by (of_enum i) s = enums n a e i q entered c there same
+        by (of_globals k i) (of_enum k' i' y' a' e' id' f' d' g') = absurd (let z : container.GlobalMembers ≡ container.EnumMembers = sym i ∙ kinds ∙ i' in absurd cc)
+        by (of_enum k i y a e id f d g) (unshared j) = by_their_node j
+        by (of_enum k i y a e id f d g) (of_enum k' i' y' a' e' id' f' d' g') =
+            one_block id.text id'.text (first_name id.text id'.text d d' d.members d'.members (names_same (path_below id.text d d.members) (path_below id'.text d' d'.members) g g')) (enum_noted mine.place mine.entered k y a e id f) (enum_noted theirs.place theirs.entered k' y' a' e' id' f')
+        by (of_enum k i y a e id f d g) (of_namespace k' i' id' f' d' g') = absurd (let z : container.EnumMembers ≡ container.NamespaceMembers = sym i ∙ kinds ∙ i' in absurd cc)
+        by (of_enum k i y a e id f d g) (of_module k' i' id' f' d' g') = absurd (let z : container.EnumMembers ≡ container.ModuleMembers = sym i ∙ kinds ∙ i' in absurd cc)
+        by (of_enum k i y a e id f d g) (of_globals k' i') = absurd (let z : container.EnumMembers ≡ container.GlobalMembers = sym i ∙ kinds ∙ i' in absurd cc)
 
   pub own_members : HasOwnMembers p x
   own_members n a e q entered c there same = same_node n a e q entered c there same

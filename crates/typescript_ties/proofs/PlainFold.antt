@@ -40,21 +40,21 @@ filter_push test (y ∷ ms) m = one (test y) (test m) (filter test (ms ++ m ∷ 
     one false true us vs e = e
     one false false us vs e = e
 
-filter_none : (test : Made → Bool) (ms : List Made) → ((m : Made) → Among m ms → test m ≡ false) → filter test ms ≡ []
+pub filter_none : (test : Made → Bool) (ms : List Made) → ((m : Made) → Among m ms → test m ≡ false) → filter test ms ≡ []
 filter_none test [] h = refl
 filter_none test (m ∷ ms) h = rw (h m (inl refl)) (filter_none test ms (λ y a. h y (inr a)))
 
-abbrev seen_with : ℕ → ℕ → Option Seen
+abbrev pub seen_with : ℕ → ℕ → Option Seen
 seen_with y flags = Some (record { symbol = y; flags = flags })
 
 abbrev with_or : ℕ → ℕ → Made → Bool → Option Seen
 with_or y flags m t = Some (cond t (record { symbol = y; flags = flags }) (seen_alone m))
 
-or_none : (o : Option ℕ) → or_else o None ≡ o
+pub or_none : (o : Option ℕ) → or_else o None ≡ o
 or_none None = refl
 or_none (Some s) = refl
 
-seen_nothing : (st : State) (o : Option ℕ) → seen_as st o ≡ None → o ≡ None
+pub seen_nothing : (st : State) (o : Option ℕ) → seen_as st o ≡ None → o ≡ None
 seen_nothing st None e = refl
 seen_nothing st (Some s) e = absurd cc
 
@@ -70,22 +70,22 @@ plain_start : (x : Name) → PlainState x start
 plain_start x = record { unremembered = λ c. refl; counted = λ c. refl; apart = λ c d s g. absurd cc; lasting = λ m a. absurd a }
 
 module _ (table : List (Option ℕ)) where
-  bound_made : (st : State) (c : ℕ) (x : Name) (s : ℕ) → Sound table st → get st.bindings c x ≡ Some s → Holds table st.made c x s
+  pub bound_made : (st : State) (c : ℕ) (x : Name) (s : ℕ) → Sound table st → get st.bindings c x ≡ Some s → Holds table st.made c x s
   bound_made st c x s sound g = sound.bound (record { scope = c; name = x; symbol = s }) (get_among st.bindings c x s g)
 
-  bound_below : (st : State) (c : ℕ) (x : Name) (s : ℕ) → Sound table st → get st.bindings c x ≡ Some s → s < length st.symbols
+  pub bound_below : (st : State) (c : ℕ) (x : Name) (s : ℕ) → Sound table st → get st.bindings c x ≡ Some s → s < length st.symbols
   bound_below st c x s sound g =
       let k : Holds table st.made c x s = bound_made st c x s sound g in
       let n : HasName st.symbols k.made.symbol k.made.declaration.naming.name = sound.has_name k.made k.among in
       subst (λ r. r < length st.symbols) k.symbol (get_within st.symbols k.made.symbol n.symbol n.is_there)
 
   -- one more declaration counts where it is
-  count_more : (c : ℕ) (x : Name) (ms : List Made) (m : Made) → is_in_scope c x m ≡ true → bound_by_all (filter (is_in_scope c x) (ms ++ m ∷ [])) ≡ with_declaration (bound_by_all (filter (is_in_scope c x) ms)) m
+  pub count_more : (c : ℕ) (x : Name) (ms : List Made) (m : Made) → is_in_scope c x m ≡ true → bound_by_all (filter (is_in_scope c x) (ms ++ m ∷ [])) ≡ with_declaration (bound_by_all (filter (is_in_scope c x) ms)) m
   count_more c x ms m e =
       ap bound_by_all (filter_push (is_in_scope c x) ms m ∙ ap (λ b. cond b (filter (is_in_scope c x) ms ++ m ∷ []) (filter (is_in_scope c x) ms)) e)
       ∙ fold-append with_declaration None (filter (is_in_scope c x) ms) (m ∷ [])
 
-  count_same : (c : ℕ) (x : Name) (ms : List Made) (m : Made) → is_in_scope c x m ≡ false → filter (is_in_scope c x) (ms ++ m ∷ []) ≡ filter (is_in_scope c x) ms
+  pub count_same : (c : ℕ) (x : Name) (ms : List Made) (m : Made) → is_in_scope c x m ≡ false → filter (is_in_scope c x) (ms ++ m ∷ []) ≡ filter (is_in_scope c x) ms
   count_same c x ms m e = filter_push (is_in_scope c x) ms m ∙ ap (λ b. cond b (filter (is_in_scope c x) ms ++ m ∷ []) (filter (is_in_scope c x) ms)) e
 
   -- ---- a declaration of another name

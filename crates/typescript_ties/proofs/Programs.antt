@@ -6,7 +6,7 @@ use Rattle.semantic_kinds.specs.declared.kind.AstType.TheVariants as kind
 use Rattle.semantic_kinds.specs.declared.role.Role.TheVariants as role
 use Rattle.semantic_kinds.specs.declared.mark.Mark.TheVariants as mark
 use Rattle.semantic_tree.specs.Tree.{Tree}
-use Rattle.tangle_model.proofs.ProgramTrees.{marked, node, program, binding, block, declared, function, function_body, mention, namespace, number, parameters, reference}
+use Rattle.tangle_model.proofs.ProgramTrees.{marked, node, program, binding, block, declared, variable, statement, in_parentheses, function, function_body, named_expression, mention, namespace, number, parameters, reference}
 
 -- `export {}; namespace N { export type T = number } let x: N.T;`
 abbrev pub qualified : Tree
@@ -440,6 +440,88 @@ index_parameters =
     (node role.Parameters kind.TSIndexSignatureName (codes "k")
     (node role.Annotation kind.TSTypeAnnotation [] (node role.Element kind.TSStringKeyword [] [] ∷ []) ∷ [])
     ∷ node role.Annotation kind.TSTypeAnnotation [] (node role.Element kind.TSTypeQuery [] (reference role.Name (codes "k") ∷ []) ∷ [])
+    ∷ [])
+    ∷ [])
+    ∷ [])
+    ∷ [])
+    ∷ [])
+
+-- `export {}; { { var a; } a; } function f(a: 1) { { var a; } a; }`
+abbrev pub hoisted_names : Tree
+hoisted_names =
+    program goal.Module lang.Ts
+    (node role.Body kind.ExportNamedDeclaration [] []
+    ∷ block role.Body (block role.Body (declared role.Body (codes "var") (binding role.Id (codes "a") ∷ []) ∷ []) ∷ mention (codes "a") ∷ [])
+    ∷ function role.Body (codes "f")
+    (node role.Items kind.FormalParameter []
+    (binding role.Pattern (codes "a")
+    ∷ node role.Annotation kind.TSTypeAnnotation [] (node role.Element kind.TSLiteralType [] (number role.Literal (codes "1") ∷ []) ∷ [])
+    ∷ [])
+    ∷ [])
+    (block role.Body (declared role.Body (codes "var") (binding role.Id (codes "a") ∷ []) ∷ []) ∷ mention (codes "a") ∷ [])
+    ∷ [])
+
+-- `export {}; { { var a; } type a = 1; } let b: a;`
+abbrev pub passed_types : Tree
+passed_types =
+    program goal.Module lang.Ts
+    (node role.Body kind.ExportNamedDeclaration [] []
+    ∷ block role.Body
+    (block role.Body (declared role.Body (codes "var") (binding role.Id (codes "a") ∷ []) ∷ [])
+    ∷ node role.Body kind.TSTypeAliasDeclaration []
+    (binding role.Id (codes "a") ∷ node role.ValueType kind.TSLiteralType [] (number role.Literal (codes "1") ∷ []) ∷ [])
+    ∷ [])
+    ∷ declared role.Body (codes "let")
+    (binding role.Id (codes "b")
+    ∷ node role.Annotation kind.TSTypeAnnotation [] (node role.Element kind.TSTypeReference [] (reference role.Name (codes "a") ∷ []) ∷ [])
+    ∷ [])
+    ∷ [])
+
+-- `export {}; let f; (function f() { f; });`
+abbrev pub own_names : Tree
+own_names =
+    program goal.Module lang.Ts
+    (node role.Body kind.ExportNamedDeclaration [] []
+    ∷ variable (codes "let") (codes "f")
+    ∷ statement (in_parentheses role.Expression (named_expression role.Expression (codes "f") [] (mention (codes "f") ∷ [])))
+    ∷ [])
+
+-- `export {}; let f; (function f<f>() { f; });`
+abbrev pub own_types : Tree
+own_types =
+    program goal.Module lang.Ts
+    (node role.Body kind.ExportNamedDeclaration [] []
+    ∷ variable (codes "let") (codes "f")
+    ∷ statement
+    (in_parentheses role.Expression
+    (node role.Expression kind.Function (codes "expression")
+    (binding role.Id (codes "f")
+    ∷ node role.TypeParameters kind.TSTypeParameterDeclaration [] (node role.Params kind.TSTypeParameter [] (binding role.Name (codes "f") ∷ []) ∷ [])
+    ∷ parameters []
+    ∷ function_body (mention (codes "f") ∷ [])
+    ∷ [])))
+    ∷ [])
+
+-- `export {}; let a = 1; class C { m(@a a: 1) { a; } }`
+abbrev pub decorated_parameters : Tree
+decorated_parameters =
+    program goal.Module lang.Ts
+    (node role.Body kind.ExportNamedDeclaration [] []
+    ∷ declared role.Body (codes "let") (binding role.Id (codes "a") ∷ number role.Init (codes "1") ∷ [])
+    ∷ node role.Body kind.Class (codes "declaration")
+    (binding role.Id (codes "C")
+    ∷ node role.Body kind.ClassBody []
+    (node role.Body kind.MethodDefinition (codes "method")
+    (node role.Key kind.IdentifierName (codes "m") []
+    ∷ node role.Value kind.Function (codes "expression")
+    (node role.Params kind.FormalParameters (codes "unique")
+    (node role.Items kind.FormalParameter []
+    (node role.Decorators kind.Decorator [] (reference role.Expression (codes "a") ∷ [])
+    ∷ binding role.Pattern (codes "a")
+    ∷ node role.Annotation kind.TSTypeAnnotation [] (node role.Element kind.TSLiteralType [] (number role.Literal (codes "1") ∷ []) ∷ [])
+    ∷ [])
+    ∷ [])
+    ∷ function_body (mention (codes "a") ∷ [])
     ∷ [])
     ∷ [])
     ∷ [])

@@ -8,7 +8,7 @@ use Rattle.tangle_model.specs.declared.reason.Reason.TheVariants as reason
 use Rattle.typescript_ties.specs.Resolved.{Resolved, nowhere, declared_in, ResolvedUse, resolved_uses}
 use Rattle.typescript_ties.specs.ResolvedTies.{parting_uses}
 use Rattle.typescript_ties.specs.TriedNames.{is_simple_name}
-use Rattle.typescript_ties.proofs.Programs.{qualified, merged_namespaces, merged_enums, typed_export, exported_namespace, generics, generic_class, overloads, typed_imports, infers, mapped, queries, ambient, sloppy_blocks, strict_blocks, local_types, equated, typed_export_inside, index_parameters}
+use Rattle.typescript_ties.proofs.Programs.{qualified, merged_namespaces, merged_enums, typed_export, exported_namespace, generics, generic_class, overloads, typed_imports, infers, mapped, queries, ambient, sloppy_blocks, strict_blocks, local_types, equated, typed_export_inside, index_parameters, hoisted_names, passed_types, own_names, own_types, decorated_parameters}
 
 abbrev identifiers_of : Resolved → List ℕ
 identifiers_of nowhere = []
@@ -232,6 +232,59 @@ index_parameters_k_parts : parting_uses index_parameters (codes "k") ≡ 17 ∷ 
 unfolding encode chars
 index_parameters_k_parts = refl
 
+-- a variable goes out to the function
+hoisted_names_meant : map meant_identifiers (resolved_uses hoisted_names) ≡ (8, 6 ∷ []) ∷ (23, 21 ∷ []) ∷ []
+unfolding encode chars
+hoisted_names_meant = refl
+
+hoisted_names_a_agrees : parting_uses hoisted_names (codes "a") ≡ []
+unfolding encode chars
+hoisted_names_a_agrees = refl
+
+-- and no type of a block that it passes
+passed_types_meant : map meant_identifiers (resolved_uses passed_types) ≡ (16, []) ∷ []
+unfolding encode chars
+passed_types_meant = refl
+
+passed_types_a_parts : parting_uses passed_types (codes "a") ≡ 16 ∷ []
+unfolding encode chars
+passed_types_a_parts = refl
+
+passed_types_a_untangled : tangle_reasons passed_types (codes "a") ≡ []
+unfolding encode chars
+passed_types_a_untangled = refl
+
+-- a function expression has its name inside of it
+own_names_meant : map meant_identifiers (resolved_uses own_names) ≡ (12, 8 ∷ []) ∷ []
+unfolding encode chars
+own_names_meant = refl
+
+own_names_f_agrees : parting_uses own_names (codes "f") ≡ []
+unfolding encode chars
+own_names_f_agrees = refl
+
+-- and beside a type of that name, which hides it in the tables
+own_types_meant : map meant_identifiers (resolved_uses own_types) ≡ (15, 8 ∷ []) ∷ []
+unfolding encode chars
+own_types_meant = refl
+
+own_types_f_parts : parting_uses own_types (codes "f") ≡ 15 ∷ []
+unfolding encode chars
+own_types_f_parts = refl
+
+own_types_f_untangled : tangle_reasons own_types (codes "f") ≡ []
+unfolding encode chars
+own_types_f_untangled = refl
+
+-- a decorator of a parameter stands outside of the method
+decorated_parameters_meant : map meant_identifiers (resolved_uses decorated_parameters) ≡ (15, 4 ∷ []) ∷ (22, 16 ∷ []) ∷ []
+unfolding encode chars
+decorated_parameters_meant = refl
+
+decorated_parameters_a_agrees : parting_uses decorated_parameters (codes "a") ≡ []
+unfolding encode chars
+decorated_parameters_a_agrees = refl
+
 -- these forms are reasons by themselves
 infers_U_tangled : tangle_reasons infers (codes "U") ≡ reason.InferredName ∷ []
 unfolding encode chars
@@ -278,17 +331,41 @@ strict_blocks_f_simple : is_simple_name strict_blocks (codes "f") ≡ true
 unfolding encode chars
 strict_blocks_f_simple = refl
 
+generics_a_simple : is_simple_name generics (codes "a") ≡ true
+unfolding encode chars
+generics_a_simple = refl
+
+decorated_parameters_a_simple : is_simple_name decorated_parameters (codes "a") ≡ true
+unfolding encode chars
+decorated_parameters_a_simple = refl
+
+hoisted_names_a_simple : is_simple_name hoisted_names (codes "a") ≡ true
+unfolding encode chars
+hoisted_names_a_simple = refl
+
 generics_T_simple : is_simple_name generics (codes "T") ≡ true
 unfolding encode chars
 generics_T_simple = refl
+
+passed_types_a_not_simple : is_simple_name passed_types (codes "a") ≡ false
+unfolding encode chars
+passed_types_a_not_simple = refl
+
+own_names_f_simple : is_simple_name own_names (codes "f") ≡ true
+unfolding encode chars
+own_names_f_simple = refl
+
+own_types_f_not_simple : is_simple_name own_types (codes "f") ≡ false
+unfolding encode chars
+own_types_f_not_simple = refl
 
 infers_U_not_simple : is_simple_name infers (codes "U") ≡ false
 unfolding encode chars
 infers_U_not_simple = refl
 
-queries_a_not_simple : is_simple_name queries (codes "a") ≡ false
+queries_a_simple : is_simple_name queries (codes "a") ≡ true
 unfolding encode chars
-queries_a_not_simple = refl
+queries_a_simple = refl
 
 sloppy_blocks_f_not_simple : is_simple_name sloppy_blocks (codes "f") ≡ false
 unfolding encode chars

@@ -2,7 +2,7 @@
 use Rattle.std.proofs.Common.{◌≡◌, ℕ, ◌==◌, List, [], ◌∷◌, ◌++◌, Option, Some, None, Bool, true, false, ◌||◌, not, cond, refl, sym, ap, subst, ◌∙◌, inl, inr, ◌⊎◌, bytes_eq}
 use Rattle.std.specs.List.{list_any}
 use Rattle.std.specs.Prelude.{slice_get}
-use Rattle.std.proofs.lemmas.Bool.{eq-eqb, and_from, not-true}
+use Rattle.std.proofs.lemmas.Bool.{cases_Bool, eq-eqb, and_from, not-true}
 use Rattle.std.proofs.lemmas.Bool.Decides.{eqb_tells}
 use Rattle.semantic_syntax.proofs.Truth.{and_first, and_second}
 use Rattle.semantic_kinds.specs.Kinds.{same_kind}
@@ -13,6 +13,7 @@ use Rattle.semantic_syntax.specs.SourceTypes.{is_typescript}
 use Rattle.semantic_syntax.specs.Tables.{Name}
 use Rattle.semantic_tree.specs.Faults.{first_fault}
 use Rattle.semantic_tree.specs.Tree.{Tree, IsNumbered}
+use Rattle.semantic_tree.specs.Views.{is}
 use Rattle.semantic_tree.specs.declared.node.Node.{Node}
 use Rattle.semantic_model.specs.Declaration.{Declaration}
 use Rattle.semantic_model.specs.Entries.{Among}
@@ -24,18 +25,20 @@ use Rattle.semantic_model.proofs.once.ListedUnder.{name_tells}
 use Rattle.semantic_model.specs.TablesOf.{made_of}
 use Rattle.binding_laws.specs.SeenDeclarations.{is_own_name, stands_before_body, is_before_body}
 use Rattle.binding_laws.proofs.EnteredOnce.{entered_once}
-use Rattle.binding_laws.proofs.ScopeOpeners.{openers, IsOpened, one_scope}
 use Rattle.typescript_ties.specs.Containers.{Container, MemberPath, same_container_kind, same_names, same_members, same_container, is_container, is_of_signature, containers_by}
 use Rattle.typescript_ties.specs.NamedDeclarations.{NamedDeclaration, named_in}
 use Rattle.typescript_ties.specs.Resolved.{has_declared}
 use Rattle.typescript_ties.specs.SeenTogether.{is_in_scope, is_seen_from}
-use Rattle.typescript_ties.specs.SimpleNames.{is_common, is_simple_sort, is_apart, is_simple, IsSimplyDeclared, HasOwnMembers}
+use Rattle.typescript_ties.specs.SimpleNames.{is_common, is_apart, is_simple, IsSimplyDeclared, HasOwnMembers}
 use Rattle.typescript_ties.specs.declared.container_kind.ContainerKind.{ContainerKind}
 use Rattle.typescript_ties.specs.declared.container_kind.ContainerKind.TheVariants as container
+use Rattle.typescript_ties.specs.declared.declaration_sort.DeclarationSort.TheVariants as sort
 use Rattle.typescript_ties.proofs.ChildPlaces.{same_truth, is_function, tells_inside, told_by_kind, tells_header}
 use Rattle.typescript_ties.proofs.Groups.{GroupMember, member_of}
-use Rattle.typescript_ties.proofs.HeadPlaces.{IsHeaded, HasOrigin, IsCommonPlace, round_place}
-use Rattle.typescript_ties.proofs.Pairs.{container_kind_is}
+use Rattle.typescript_ties.proofs.HeadPlaces.{HasOrigin, IsCommonPlace, round_place}
+use Rattle.typescript_ties.proofs.Pairs.{container_kind_is, IsSeenHeaded}
+use Rattle.binding_laws.proofs.ScopeOpeners.{openers, IsOpened, one_scope}
+use Rattle.typescript_ties.proofs.SimpleOnes.{is_not_apart, is_parameter}
 use Rattle.typescript_ties.proofs.SimpleDeclarations.{IsBoth, of_tables, of_language, of_made, made_so}
 
 never : true ≡ false → ⊥
@@ -96,24 +99,34 @@ module _ (p : Tree) (h : first_fault p ≡ None) (common : is_common p ≡ true)
     same_or false b e = not-true b e
 
     -- a container of the scope is one of the child's
-    within_group : (n : NamedDeclaration) → is_apart n.container.kind ≡ false → n.container.node ≡ q.node.node_id → HasOrigin p n.container → (is_container container.Body n.container ≡ true → s.in_header ≡ false) → Among n.container group
-    within_group n free at o body =
+    within_group : (n : NamedDeclaration) → is_apart n.container.kind ≡ false → n.container.node ≡ q.node.node_id → HasOrigin p n.container → (is_container container.Body n.container ≡ true → s.in_header ≡ false) → (is_container container.Parameters n.container ≡ true → is kind.TSTypeParameterDeclaration node ≡ false) → Among n.container group
+    within_group n free at o body parameters =
         let place : o.place ≡ q = entered_once p numbered o.place q o.entered entered (sym o.stands ∙ at) in
         let a : Among n.container (containers_by q.node.kind p.source_type q.node q.path (round_place p q) o.child) = subst (λ (z : Place). Among n.container (containers_by z.node.kind p.source_type z.node z.path (round_place p z) o.child)) place o.among in
         let m : Member o.child n.container = member o.child n.container a in
-        m.again free (λ i. same_or (is_in_header q.node.kind r) (is_of_signature node) (header_is (m.body i)) ∙ sym header ∙ body i)
+        m.again free (λ i. same_or (is_in_header q.node.kind r) (is_of_signature node) (header_is (m.body i)) ∙ sym header ∙ body i) parameters
 
-    pub free_of : (n : NamedDeclaration) → is_simple n ≡ true → is_apart n.container.kind ≡ false
-    free_of n e = not-true (is_apart n.container.kind) (and_second (is_simple_sort n.sort) (not (is_apart n.container.kind)) e)
+    -- a parameter, which isn't seen from type parameters
+    pub record IsHidden (n : NamedDeclaration) : Type 0 where
+      pub parameter : n.sort ≡ sort.Parameter
+      pub past : is kind.TSTypeParameterDeclaration node ≡ true
+      pub stands : n.container.node ≡ q.node.node_id
 
-    -- what is seen of the scope, and the container of the child that has it
+    in_or_hidden : (n : NamedDeclaration) → is_simple n ≡ true → n.container.node ≡ q.node.node_id → HasOrigin p n.container → (is_container container.Body n.container ≡ true → s.in_header ≡ false) → Among n.container group ⊎ IsHidden n
+    in_or_hidden n e at o body = elim (cases_Bool (is kind.TSTypeParameterDeclaration node)) [
+      | inr i ↦ inl (within_group n (is_not_apart n e) at o body (λ j. i))
+      | inl i ↦ elim (cases_Bool (is_container container.Parameters n.container)) [
+        | inl j ↦ inr (record { parameter = is_parameter n e j; past = i; stands = at })
+        | inr j ↦ inl (within_group n (is_not_apart n e) at o body (λ l. absurd (never (sym l ∙ j))))
+      ]
+    ]
+
+    -- what is seen of the scope: the child has its container, or it is hidden
     pub record SeenAs (m : Made) : Type 0 where
       pub named : NamedDeclaration
       pub both : Both m.declaration named
-      pub container : Container
-      pub there : Among container group
-      pub there_so : Among named.container group
-      pub has : has_declared container x named ≡ true
+      pub there : Among named.container group ⊎ IsHidden named
+      pub has : has_declared named.container x named ≡ true
       pub number : m.declaration.route.target.number ≡ s.number
       pub name : m.declaration.naming.name ≡ x
 
@@ -141,13 +154,10 @@ module _ (p : Tree) (h : first_fault p ≡ None) (common : is_common p ≡ true)
         let (number, f) = seen_so s.in_header m e in
         let (n, both) = of_tables p h common typed numbered x simply m.declaration (of_made p h common typed numbered x simply m a) f.0 in
         let same : m.declaration.route.target.opener ≡ s.opener = one_opener m.declaration.route.target.opener s.opener (sym both.opened ∙ ap (slice_get (openers (steps p))) number ∙ opened) in
-        let free : is_apart n.container.kind ≡ false = free_of n (simply n both.named both.named_so) in
         record {
           named = n;
           both = both;
-          container = n.container;
-          there = within_group n free (sym both.pair.home.opener ∙ same ∙ opener) both.pair.home.origin (λ i. not_headed s.in_header f.1 (both.pair.home.in_body i) both.pair.flags.no_own);
-          there_so = within_group n free (sym both.pair.home.opener ∙ same ∙ opener) both.pair.home.origin (λ i. not_headed s.in_header f.1 (both.pair.home.in_body i) both.pair.flags.no_own);
+          there = in_or_hidden n (simply.each n both.named both.named_so) (sym both.pair.home.opener ∙ same ∙ opener) both.pair.home.origin (λ i. not_headed s.in_header f.1 (both.pair.home.in_body i) (in_no_body m n both i));
           has = and_from (bytes_eq n.name x) (same_container n.container n.container || list_any (λ d. same_container d n.container) n.also) (elim (name_tells n.name x) [ inl j ↦ j.0 | inr j ↦ absurd (j.1 both.named_so) ]) (ap (λ b. b || list_any (λ d. same_container d n.container) n.also) (container_self n.container));
           number = number;
           name = f.0;
@@ -156,17 +166,15 @@ module _ (p : Tree) (h : first_fault p ≡ None) (common : is_common p ≡ true)
         one_opener : (a b : ℕ) → Some a ≡ Some b → a ≡ b
         one_opener a b i = cc
 
+        in_no_body : (m : Made) (n : NamedDeclaration) → Both m.declaration n → is_container container.Body n.container ≡ true → is_own_name m.declaration ≡ false
+        in_no_body m n both i = elim both.pair.own [
+          | inl e ↦ e
+          | inr (is_name, at) ↦ absurd (let z : container.Body ≡ container.OwnName = sym (container_kind_is n.container.kind container.Body i) ∙ container_kind_is n.container.kind container.OwnName at in absurd cc)
+        ]
+
         not_headed : (b : Bool) → (b ≡ true → (m.declaration.route.target.in_header || is_own_name m.declaration) ≡ true) → m.declaration.route.target.in_header ≡ false → is_own_name m.declaration ≡ false → b ≡ false
         not_headed false f i j = refl
         not_headed true f i j = absurd (never (sym (f refl) ∙ (λ t. i t || j t)))
-
-    -- in a header the container is one of type parameters
-    pub in_header_types : s.in_header ≡ true → (d : Container) → Among d group → is_apart d.kind ≡ false → is_container container.TypeParameters d ≡ true
-    in_header_types i d b free = (member node d b).header free (λ f. or_true_of (is_in_header q.node.kind r) (is_of_signature node) (header_is f) (sym header ∙ i)) (header_kinds q.node.kind r (sym header ∙ i))
-      where
-        or_true_of : (u v : Bool) → same_truth u v ≡ true → u ≡ true → v ≡ true
-        or_true_of true v i j = i
-        or_true_of false v i j = absurd (never (sym j))
 
     -- a declaration that a container of the child has is seen
     pub record SeenToo (n : NamedDeclaration) : Type 0 where
@@ -185,14 +193,14 @@ module _ (p : Tree) (h : first_fault p ≡ None) (common : is_common p ≡ true)
         let same_kinds : n.container.kind ≡ d.kind = container_kind_is n.container.kind d.kind (and_first (same_container_kind n.container.kind d.kind) (same_members n.container d n.container.members d.members) here) in
         let at_node : n.container.node ≡ q.node.node_id = same_node ∙ m.node in
         let number : w.route.target.number ≡ s.number = one_scope p numbered w.route.target s both.opened opened (both.pair.home.opener ∙ at_node ∙ sym opener) in
-        let free : is_apart n.container.kind ≡ false = free_of n (simply n a named) in
+        let free : is_apart n.container.kind ≡ false = is_not_apart n (simply.each n a named) in
         let (y, made) = made_so p h common typed numbered x simply w both.among in
         record {
           made = record { declaration = w; symbol = y };
           among = made;
           both = both;
           seen = by s.in_header refl w number (ap (λ t. t.name) both.told ∙ named)
-              (λ i. into_header w both.pair.home.opener at_node (both.pair.home.in_header (subst (λ z. same_container_kind z container.TypeParameters ≡ true) (sym same_kinds) (m.header (subst (λ z. is_apart z ≡ false) same_kinds free) (λ f. same_or_true (is_in_header q.node.kind r) (is_of_signature node) (header_is f) (sym header ∙ i)) (header_kinds q.node.kind r (sym header ∙ i))))) (header_kinds q.node.kind r (sym header ∙ i)) d b (subst (λ z. is_apart z ≡ false) same_kinds free)) y;
+              (λ i. into_header w both.pair.home.opener at_node (both.pair.home.in_header (subst (λ z. (same_container_kind z container.TypeParameters || (same_container_kind z container.Parameters || same_container_kind z container.OwnName)) ≡ true) (sym same_kinds) (m.header (subst (λ z. is_apart z ≡ false) same_kinds free) (λ f. same_or_true (is_in_header q.node.kind r) (is_of_signature node) (header_is f) (sym header ∙ i)) (header_kinds q.node.kind r (sym header ∙ i))))) (header_kinds q.node.kind r (sym header ∙ i)) d b (subst (λ z. is_apart z ≡ false) same_kinds free)) y;
         }
       where
         left_or : (u v : Bool) → (u || v) ≡ true → v ≡ false → u ≡ true
@@ -209,7 +217,7 @@ module _ (p : Tree) (h : first_fault p ≡ None) (common : is_common p ≡ true)
         same_or_true false v i j = absurd (never (sym j))
 
         -- the scope of a function is seen from its header
-        into_header : (w : Declaration) → w.route.target.opener ≡ n.container.node → n.container.node ≡ q.node.node_id → IsHeaded p w.route.target → (is_function q.node.kind ≡ true) ⊎ (same_kind q.node.kind kind.CatchClause ≡ true) → (d : Container) → Among d group → is_apart d.kind ≡ false → w.route.target.in_header ≡ true
+        into_header : (w : Declaration) → w.route.target.opener ≡ n.container.node → n.container.node ≡ q.node.node_id → IsSeenHeaded p w → (is_function q.node.kind ≡ true) ⊎ (same_kind q.node.kind kind.CatchClause ≡ true) → (d : Container) → Among d group → is_apart d.kind ≡ false → (w.route.target.in_header || is_own_name w) ≡ true
         into_header w o i g (inl f) d b free =
             let place : g.place ≡ q = entered_once p numbered g.place q g.entered entered (sym g.opener ∙ o ∙ i) in
             g.header (subst (λ (z : Place). is_function z.node.kind ≡ true) (sym place) f)
@@ -220,6 +228,6 @@ module _ (p : Tree) (h : first_fault p ≡ None) (common : is_common p ≡ true)
             no_clause kind.CatchClause f d (inr e) free = e
             no_clause _ f d b free = never (sym f)
 
-        by : (b : Bool) → s.in_header ≡ b → (w : Declaration) → w.route.target.number ≡ s.number → w.naming.name ≡ x → (s.in_header ≡ true → w.route.target.in_header ≡ true) → (y : ℕ) → is_seen_from s x (record { declaration = w; symbol = y }) ≡ true
-        by true e w i j f y = rw e (and_from (stands_before_body s.number w) (bytes_eq w.naming.name x) (and_from (w.route.target.number == s.number) (w.route.target.in_header || is_own_name w) (eq-eqb w.route.target.number s.number i) (ap (λ t. t || is_own_name w) (f e))) (elim (name_tells w.naming.name x) [ inl z ↦ z.0 | inr z ↦ absurd (z.1 j) ]))
+        by : (b : Bool) → s.in_header ≡ b → (w : Declaration) → w.route.target.number ≡ s.number → w.naming.name ≡ x → (s.in_header ≡ true → (w.route.target.in_header || is_own_name w) ≡ true) → (y : ℕ) → is_seen_from s x (record { declaration = w; symbol = y }) ≡ true
+        by true e w i j f y = rw e (and_from (stands_before_body s.number w) (bytes_eq w.naming.name x) (and_from (w.route.target.number == s.number) (w.route.target.in_header || is_own_name w) (eq-eqb w.route.target.number s.number i) (f e)) (elim (name_tells w.naming.name x) [ inl z ↦ z.0 | inr z ↦ absurd (z.1 j) ]))
         by false e w i j f y = rw e (and_from (w.route.target.number == s.number) (bytes_eq w.naming.name x) (eq-eqb w.route.target.number s.number i) (elim (name_tells w.naming.name x) [ inl z ↦ z.0 | inr z ↦ absurd (z.1 j) ]))

@@ -1,43 +1,49 @@
 -- The declarations of a name that is declared simply, as the tables and as the language have them.
-use Rattle.std.proofs.Common.{◌≡◌, ℕ, List, [], ◌∷◌, ◌++◌, None, Bool, true, false, not, cond, map, flat_map, refl, sym, ap, subst, ◌∙◌, inl, inr}
-use Rattle.semantic_syntax.proofs.Truth.{and_first}
+use Rattle.std.proofs.Common.{◌≡◌, ℕ, List, [], ◌∷◌, ◌++◌, Some, None, Bool, true, false, ◌||◌, map, flat_map, refl, sym, ap, subst, ◌∙◌, inl, inr, ◌⊎◌}
+use Rattle.std.specs.Prelude.{slice_get}
+use Rattle.std.proofs.lemmas.Bool.{cases_Bool}
+use Rattle.std.proofs.lemmas.Bool.Decides.{eqb_tells}
+use Rattle.semantic_syntax.specs.Members.{contains}
 use Rattle.semantic_kinds.specs.Kinds.{same_kind}
 use Rattle.semantic_kinds.specs.declared.kind.AstType.{AstType}
 use Rattle.semantic_kinds.specs.declared.kind.AstType.TheVariants as kind
 use Rattle.semantic_syntax.specs.SourceTypes.{is_typescript}
 use Rattle.semantic_syntax.specs.Tables.{Name}
-use Rattle.semantic_syntax.specs.declared.source_type.SourceType.{SourceType}
 use Rattle.semantic_tree.specs.Faults.{first_fault}
 use Rattle.semantic_tree.specs.Tree.{Tree, IsNumbered}
-use Rattle.semantic_tree.specs.declared.node.Node.{Node}
-use Rattle.semantic_model.specs.Binder.{is_statement, declared_inside, declared_on_entering, declared_on_opening}
-use Rattle.semantic_model.specs.Declaration.{Declaration, How, plain, hoisted, moved, caught}
+use Rattle.semantic_model.specs.Binder.{declared_inside, declared_on_entering, declared_on_opening}
+use Rattle.semantic_model.specs.Binding.{get}
+use Rattle.semantic_model.specs.Declaration.{Declaration, plain, hoisted}
 use Rattle.semantic_model.specs.Entries.{Among}
-use Rattle.semantic_model.specs.Event.{Event, declares, takes_over, ends_header, declared, declarations, events, events_of, placed, placed_by, written_declarations}
+use Rattle.semantic_model.specs.Event.{Event, declares, takes_over, ends_header, declared, declarations, events, events_of, declares_all, taken_over, placed, placed_by, written_declarations}
 use Rattle.semantic_model.specs.Fold.{State, Made, start}
 use Rattle.semantic_model.specs.Hoist.{act, run}
-use Rattle.semantic_model.specs.Place.{Place, OpenScope}
+use Rattle.semantic_model.specs.Inside.{opens}
+use Rattle.semantic_model.specs.Place.{Place, OpenScope, innermost}
 use Rattle.semantic_model.specs.ScopeKind.{opened_scope}
 use Rattle.semantic_model.specs.Step.{Step, entering, opening, header_ending, closing, leaving, steps}
 use Rattle.semantic_model.proofs.fits.NothingInvented.{made_declared}
-use Rattle.semantic_model.proofs.fold.Orders.{Adds, adds}
+use Rattle.semantic_model.proofs.bindings.NearestVar.{nearest}
+use Rattle.semantic_model.proofs.fold.Orders.{Adds, adds, table_of}
 use Rattle.semantic_model.proofs.form.Shape.{has_form}
-use Rattle.semantic_model.proofs.lists.Members.{among_left, among_right, among_last}
+use Rattle.semantic_model.proofs.lists.Members.{among_left, among_right, among_last, among_cases}
 use Rattle.program_laws.proofs.DeclaredNodes.{among_flat}
 use Rattle.semantic_model.specs.TablesOf.{made_of}
-use Rattle.binding_laws.specs.OneSymbol.{NoneTakes, BindsIn, takes_by, first_scope}
-use Rattle.binding_laws.proofs.OneSymbolEach.{one_symbol_each}
-use Rattle.binding_laws.proofs.ScopeOpeners.{openers, IsOpened, IsPlaceOpened, innermost_opened, places_opened, root_opener}
-use Rattle.typescript_ties.specs.Containers.{Container}
+use Rattle.binding_laws.specs.SeenDeclarations.{is_own_name}
 use Rattle.typescript_ties.specs.DeclaredNames.{told_to_tables, told_by_language}
-use Rattle.typescript_ties.specs.NamedDeclarations.{NamedDeclaration, named_declaration, named_by_node, named_at, named_in}
-use Rattle.typescript_ties.specs.SeenTogether.{IsPlainlyDeclared}
-use Rattle.typescript_ties.specs.SimpleNames.{is_common, is_simple_sort, is_apart, is_simple, IsSimplyDeclared}
-use Rattle.typescript_ties.specs.declared.declaration_sort.DeclarationSort.{DeclarationSort}
+use Rattle.typescript_ties.specs.NamedDeclarations.{NamedDeclaration, named_by_node, named_at, named_in}
+use Rattle.typescript_ties.specs.SimpleNames.{is_common, is_simple_sort, is_simple, IsSimplyDeclared}
 use Rattle.typescript_ties.specs.declared.declaration_sort.DeclarationSort.TheVariants as sort
 use Rattle.typescript_ties.proofs.HeadPlaces.{IsCommonPlace, CommonStep, common_places}
 use Rattle.typescript_ties.proofs.KnownPlaces.{IsKnownPlace, KnownStep, known_places}
-use Rattle.typescript_ties.proofs.Pairs.{IsAtHome, IsSimplePair, AllPairs, pair_of_written, pair_of_named, pairs_by}
+use Rattle.typescript_ties.proofs.OwnScopes.{among_opened, OwnScope, OwnStep, own_program}
+use Rattle.typescript_ties.proofs.Pairs.{IsPassedAs, WayOf, stays, goes_out, IsSimplePair, AllPairs, map_among, pair_of_written, pair_of_named, pairs_by}
+use Rattle.binding_laws.proofs.ScopeOpeners.{openers, IsOpened, AllOpened, IsPlaceOpened, places_opened, innermost_opened, root_opener}
+use Rattle.typescript_ties.proofs.ClearFold.{AllClear, ClearState}
+use Rattle.typescript_ties.proofs.ClearTies.{clear_at_last}
+use Rattle.typescript_ties.proofs.LikeFlags.{IsVariable}
+use Rattle.typescript_ties.proofs.VarRoutes.{StandsWell, StandingStep, all_stand_well}
+use Rattle.typescript_ties.proofs.SimpleOnes.{sort_is_simple}
 use Rattle.typescript_ties.proofs.UndeclaredFree.{each_among, IsWritten, is_written, not_index, named_among}
 
 never : true ≡ false → ⊥
@@ -49,11 +55,6 @@ pub flat_among : {A B : Type 0} → (g : A → List B) (xs : List A) (x : A) (y 
 flat_among g [] x y a b = absurd a
 flat_among g (z ∷ xs) x y (inl e) b = among_left y (g z) (flat_map g xs) (subst (λ w. Among y (g w)) (sym e) b)
 flat_among g (z ∷ xs) x y (inr a) b = among_right y (g z) (flat_map g xs) (flat_among g xs x y a b)
-
-map_among : {A B : Type 0} → (g : A → B) (xs : List A) (x : A) → Among x xs → Among (g x) (map g xs)
-map_among g [] x a = absurd a
-map_among g (z ∷ xs) x (inl e) = inl (ap g e)
-map_among g (z ∷ xs) x (inr a) = inr (map_among g xs x a)
 
 -- ---- what is declared was made
 
@@ -75,22 +76,12 @@ is_made d st (declares e ∷ es) (inr a) = is_made d (act st (declares e)) es a
 is_made d st (takes_over c b ∷ es) a = is_made d (act st (takes_over c b)) es a
 is_made d st (ends_header c ∷ es) a = is_made d st es a
 
--- ---- what is declared simply, a node declares on entering
-
-sort_of : (j : DeclarationSort) (c : Container) (names : List Node) (n : NamedDeclaration) → Among n (map (named_declaration j c []) names) → is_simple n ≡ true → is_simple_sort j ≡ true
-sort_of j c [] n a e = absurd a
-sort_of j c (x ∷ xs) n (inl i) e = subst (λ z. is_simple_sort z ≡ true) (sym (ap (λ (m : NamedDeclaration). m.sort) i)) (and_first (is_simple_sort n.sort) (not (is_apart n.container.kind)) e)
-sort_of j c (x ∷ xs) n (inr a) e = sort_of j c xs n a e
-
-no_statement : (b : Bool) (f : Node → NamedDeclaration) (j : DeclarationSort) (c : Container) (names : List Node) (n : NamedDeclaration) → is_simple_sort j ≡ false → Among n (map (cond b f (named_declaration j c [])) names) → is_simple n ≡ true → b ≡ true
-no_statement true f j c names n u a e = refl
-no_statement false f j c names n u a e = absurd (never (sym (sort_of j c names n a e) ∙ u))
-
-none_inside : (s : SourceType) (q : Place) (own : OpenScope) (n : NamedDeclaration) (k : AstType) → Among n (named_by_node k s q.node q.path) → is_simple n ≡ true → declared_inside k q own ≡ []
-none_inside s q own n kind.Function a e = rw (no_statement (is_statement q.node) _ sort.FunctionName _ _ n refl a e) refl
-none_inside s q own n kind.Class a e = rw (no_statement (is_statement q.node) _ sort.ClassName _ _ n refl a e) refl
-none_inside s q own n kind.TSMappedType a e = absurd (never (sym (sort_of sort.MappedKey _ _ n a e)))
-none_inside s q own n _ a e = refl
+-- what a node declares in its own scope, it opens one for
+opens_inside : (q : Place) (own : OpenScope) (w : Declaration) (k : AstType) → Among w (declared_inside k q own) → opens k ≡ true
+opens_inside q own w kind.Function a = refl
+opens_inside q own w kind.Class a = refl
+opens_inside q own w kind.TSMappedType a = refl
+opens_inside q own w _ a = absurd a
 
 -- ---- the program
 
@@ -111,20 +102,48 @@ module _ (p : Tree) (h : first_fault p ≡ None) (common : is_common p ≡ true)
     pub opened : IsOpened (openers (steps p)) d.route.target
 
   common_at : (q : Place) → Among (entering q) (steps p) → IsCommonPlace p q
-  common_at q a = each_among (CommonStep p) (steps p) (entering q) (common_places p h common) a
+  common_at q a = each_among (CommonStep p) (steps p) (entering q) (common_places p h common numbered) a
 
   known_at : (q : Place) → Among (entering q) (steps p) → IsKnownPlace q
   known_at q a = each_among KnownStep (steps p) (entering q) (known_places p h) a
 
-  opened_at : (w : Declaration) (n : NamedDeclaration) → IsAtHome p w n → IsOpened (openers (steps p)) w.route.target
-  opened_at w n home = subst (IsOpened (openers (steps p))) (sym home.target)
-      (innermost_opened (openers (steps p)) (root_opener p (has_form p h).root numbered) home.place.chain (each_among (IsPlaceOpened (openers (steps p))) (steps p) (entering home.place) (places_opened p) home.entered))
+  chain_opened : (q : Place) → Among (entering q) (steps p) → AllOpened (openers (steps p)) q.chain
+  chain_opened q a = each_among (IsPlaceOpened (openers (steps p))) (steps p) (entering q) (places_opened p) a
 
-  stays_placed : (how : How) (w : Declaration) → how ≡ plain → placed_by how ds w ≡ w
-  stays_placed plain w e = refl
-  stays_placed hoisted w e = absurd cc
-  stays_placed moved w e = absurd cc
-  stays_placed caught w e = absurd cc
+  head_opened : (q : Place) → Among (entering q) (steps p) → IsOpened (openers (steps p)) (innermost q.chain)
+  head_opened q a = innermost_opened (openers (steps p)) (root_opener p (has_form p h).root numbered) q.chain (chain_opened q a)
+
+  -- the number of a place's scope
+  record OwnCount (q : Place) : Type 0 where
+    count : ℕ
+    opened : opens q.node.kind ≡ true → IsOpened (openers (steps p)) (opened_scope q count)
+    among : opens q.node.kind ≡ true → Among (opening q (opened_scope q count)) (steps p)
+
+  own_count : (q : Place) → Among (entering q) (steps p) → OwnCount q
+  own_count q a = by (opens q.node.kind) refl (each_among (OwnStep (steps p) (openers (steps p))) (steps p) (entering q) (own_program p) a)
+    where
+      by : (b : Bool) → opens q.node.kind ≡ b → (opens q.node.kind ≡ true → OwnScope (steps p) (openers (steps p)) q) → OwnCount q
+      by true i f = let o : OwnScope (steps p) (openers (steps p)) q = f i in record { count = o.count; opened = λ e. o.opened; among = λ e. o.among }
+      by false i f = record { count = 0; opened = λ e. absurd (never (sym e ∙ i)); among = λ e. absurd (never (sym e ∙ i)) }
+
+  -- that of a declaration as it is written
+  record WrittenCount (d : Declaration) (w : IsWritten p d) : Type 0 where
+    count : ℕ
+    opened : opens w.place.node.kind ≡ true → IsOpened (openers (steps p)) (opened_scope w.place count)
+    among : Among w.written (declared_on_opening w.place (opened_scope w.place count) ++ declared_on_entering w.place)
+
+  written_count : (d : Declaration) (w : IsWritten p d) → WrittenCount d w
+  written_count d w = elim w.opened [
+    | inl a ↦ record { count = w.count; opened = λ e. each_among (OwnStep (steps p) (openers (steps p))) (steps p) (opening w.place (opened_scope w.place w.count)) (own_program p) a; among = w.among }
+    | inr a ↦ (let o : OwnCount w.place = own_count w.place w.entered in record { count = o.count; opened = o.opened; among = among_right w.written (declared_on_opening w.place (opened_scope w.place o.count)) (declared_on_entering w.place) a })
+  ]
+
+  well_at : (q : Place) → Among (entering q) (steps p) → StandsWell p q
+  well_at q a = each_among (StandingStep p) (steps p) (entering q) (all_stand_well p h common numbered) a
+
+  stays_placed : (w : Declaration) (n : NamedDeclaration) → WayOf p w n → placed ds w ≡ w
+  stays_placed w n (stays e) = ap (λ how. placed_by how ds w) e
+  stays_placed w n (goes_out e variable is_var q entered at each) = ap (λ how. placed_by how ds w) e
 
   named_of : (w : Declaration) (n : NamedDeclaration) → told_to_tables w ≡ told_by_language n → w.naming.name ≡ x → n.name ≡ x
   named_of w n t e = sym (ap (λ z. z.name) t) ∙ e
@@ -133,14 +152,15 @@ module _ (p : Tree) (h : first_fault p ≡ None) (common : is_common p ≡ true)
   of_tables d a e =
       let w : IsWritten p d = is_written p d a in
       let k : IsKnownPlace w.place = known_at w.place w.entered in
-      let pairs : AllPairs p (declared_on_opening w.place (opened_scope w.place w.count) ++ declared_on_entering w.place) (named_by_node w.place.node.kind p.source_type w.place.node w.place.path) =
-      pairs_by p w.place w.entered (common_at w.place w.entered) typed w.count w.place.node.kind refl (not_index w.place w.count w.written w.among) k.whole k.rooted in
-      let (n, b, c) = pair_of_written p (declared_on_opening w.place (opened_scope w.place w.count) ++ declared_on_entering w.place) (named_by_node w.place.node.kind p.source_type w.place.node w.place.path) pairs w.written w.among in
+      let o : WrittenCount d w = written_count d w in
+      let pairs : AllPairs p (declared_on_opening w.place (opened_scope w.place o.count) ++ declared_on_entering w.place) (named_by_node w.place.node.kind p.source_type w.place.node w.place.path) =
+      pairs_by p w.place w.entered (common_at w.place w.entered) (well_at w.place w.entered) typed o.count (chain_opened w.place w.entered) (head_opened w.place w.entered) o.opened w.place.node.kind refl (not_index w.place o.count w.written o.among) k.whole k.rooted in
+      let (n, b, c) = pair_of_written p (declared_on_opening w.place (opened_scope w.place o.count) ++ declared_on_entering w.place) (named_by_node w.place.node.kind p.source_type w.place.node w.place.path) pairs w.written o.among in
       let same_name : w.written.naming.name ≡ x = ap (λ z. z.name) (w.naming_same) ∙ e in
       let among : Among n (named_in p) = named_among p (steps p) w.place n w.entered b in
       let named : n.name ≡ x = named_of w.written n c.told same_name in
-      let simple : IsSimplePair p w.written n = c.simple (simply n among named) in
-      let same : w.written ≡ d = sym (stays_placed w.written.how w.written simple.how) ∙ w.is_placed in (
+      let simple : IsSimplePair p w.written n = c.simple (simply.each n among named) in
+      let same : w.written ≡ d = sym (stays_placed w.written n simple.how) ∙ w.is_placed in (
         n,
         record {
           among = a;
@@ -148,7 +168,7 @@ module _ (p : Tree) (h : first_fault p ≡ None) (common : is_common p ≡ true)
           named_so = named;
           told = subst (λ z. told_to_tables z ≡ told_by_language n) same c.told;
           pair = subst (λ z. IsSimplePair p z n) same simple;
-          opened = subst (λ z. IsOpened (openers (steps p)) z.route.target) same (opened_at w.written n simple.home);
+          opened = subst (λ z. IsOpened (openers (steps p)) z.route.target) same simple.home.opened;
         },
       )
 
@@ -168,35 +188,36 @@ module _ (p : Tree) (h : first_fault p ≡ None) (common : is_common p ≡ true)
   of_language n a e =
       let (q, entered, b) = entered_of n (steps p) a in
       let k : IsKnownPlace q = known_at q entered in
-      let is_so : is_simple n ≡ true = simply n a e in
-      let inside : declared_inside q.node.kind q (opened_scope q 0) ≡ [] = none_inside p.source_type q (opened_scope q 0) n q.node.kind b is_so in
+      let is_so : is_simple n ≡ true = simply.each n a e in
       let indexed : same_kind q.node.kind kind.TSIndexSignatureName ≡ false = no_index q n q.node.kind b is_so in
-      let pairs : AllPairs p (declared_on_opening q (opened_scope q 0) ++ declared_on_entering q) (named_by_node q.node.kind p.source_type q.node q.path) =
-      pairs_by p q entered (common_at q entered) typed 0 q.node.kind refl indexed k.whole k.rooted in
-      let (w, i, c) = pair_of_named p (declared_on_opening q (opened_scope q 0) ++ declared_on_entering q) (named_by_node q.node.kind p.source_type q.node q.path) pairs n b in
-      let there : Among w (declared_on_entering q) = subst (λ l. Among w (l ++ declared_on_entering q)) inside i in
+      let o : OwnCount q = own_count q entered in
+      let own : OpenScope = opened_scope q o.count in
+      let pairs : AllPairs p (declared_on_opening q own ++ declared_on_entering q) (named_by_node q.node.kind p.source_type q.node q.path) =
+      pairs_by p q entered (common_at q entered) (well_at q entered) typed o.count (chain_opened q entered) (head_opened q entered) o.opened q.node.kind refl indexed k.whole k.rooted in
+      let (w, i, c) = pair_of_named p (declared_on_opening q own ++ declared_on_entering q) (named_by_node q.node.kind p.source_type q.node q.path) pairs n b in
       let simple : IsSimplePair p w n = c.simple is_so in
-      let event : Among (declares (placed ds w)) (events (steps p)) = flat_among (events_of ds) (steps p) (entering q) (declares (placed ds w)) entered (map_among (λ z. declares (placed ds z)) (declared_on_entering q) w there) in
+      let event : Among (declares (placed ds w)) (events (steps p)) = elim (among_cases w (declared_on_opening q own) (declared_on_entering q) i) [
+        | inl j ↦ flat_among (events_of ds) (steps p) (opening q own) (declares (placed ds w)) (o.among (opens_inside q own w q.node.kind j))
+            (among_right (declares (placed ds w)) (taken_over q own) (declares_all ds (declared_on_opening q own)) (map_among (λ z. declares (placed ds z)) (declared_on_opening q own) w j))
+        | inr j ↦ flat_among (events_of ds) (steps p) (entering q) (declares (placed ds w)) entered (map_among (λ z. declares (placed ds z)) (declared_on_entering q) w j)
+      ] in
       let among : Among (placed ds w) all = flat_among declared (events (steps p)) (declares (placed ds w)) (placed ds w) event (inl refl) in (
         w,
         record {
-          among = subst (λ z. Among z all) (stays_placed w.how w simple.how) among;
+          among = subst (λ z. Among z all) (stays_placed w n simple.how) among;
           named = a;
           named_so = e;
           told = c.told;
           pair = simple;
-          opened = opened_at w n simple.home;
+          opened = simple.home.opened;
         },
       )
     where
       no_index : (q : Place) (n : NamedDeclaration) (k : AstType) → Among n (named_by_node k p.source_type q.node q.path) → is_simple n ≡ true → same_kind k kind.TSIndexSignatureName ≡ false
-      no_index q n kind.TSIndexSignatureName (inl i) u = absurd (never (sym (subst (λ z. is_simple_sort z ≡ true) (sym (ap (λ (m : NamedDeclaration). m.sort) i)) (and_first (is_simple_sort n.sort) (not (is_apart n.container.kind)) u))))
+      no_index q n kind.TSIndexSignatureName (inl i) u = absurd (never (sym (subst (λ z. is_simple_sort z ≡ true) (sym (ap (λ (m : NamedDeclaration). m.sort) i)) (sort_is_simple n u))))
       no_index q n kind.TSIndexSignatureName (inr i) u = absurd i
       no_index q n kind.Program a u = refl
       no_index q n _ a u = refl
-
-  pub is_plain : IsPlainlyDeclared p x
-  is_plain d a e = let (n, b) = of_tables d a e in record { how = b.pair.how; lasting = b.pair.home.lasting }
 
   -- what is made is declared
   pub of_made : (m : Made) → Among m (made_of p) → Among m.declaration all
@@ -205,16 +226,54 @@ module _ (p : Tree) (h : first_fault p ≡ None) (common : is_common p ≡ true)
   pub made_so : (d : Declaration) → Among d all → (s : ℕ) × Among (record { declaration = d; symbol = s }) (made_of p)
   made_so d a = is_made d start (events (steps p)) a
 
-  none_takes : (c : ℕ) → NoneTakes p c x
-  none_takes c d a e = let (n, b) = of_tables d a e in subst (λ how. takes_by how c d ≡ false) (sym b.pair.how) refl
+  -- ---- each variable keeps clear
 
-  binds_in : (d : Declaration) → Among d all → d.naming.name ≡ x → BindsIn d.route.target.number x d
-  binds_in d a e =
-      let (n, b) = of_tables d a e in
-      record { stays = inl b.pair.how; scope = subst (λ how. first_scope how d ≡ d.route.target.number) (sym b.pair.how) refl; named = e; other = b.pair.flags.no_own }
+  contains_among : (cs : List OpenScope) (c : ℕ) → contains (map (λ s. s.number) cs) c ≡ true → (z : OpenScope) × Among z cs × (z.number ≡ c)
+  contains_among [] c e = absurd (never (sym e))
+  contains_among (s ∷ cs) c e = elim (eqb_tells s.number c) [
+    | inl q ↦ (s, inl refl, q.1)
+    | inr q ↦ (let (z, a, n) = contains_among cs c (sym (ap (λ b. b || contains (map (λ o. o.number) cs) c) q.0) ∙ e) in (z, inr a, n))
+  ]
+
+  one_opener : (a b : ℕ) → Some a ≡ Some b → a ≡ b
+  one_opener a b e = cc
+
+  -- no declaration of the name goes to a scope that a variable of it passes
+  apart : (n : NamedDeclaration) → Among n (named_in p) → n.name ≡ x → n.sort ≡ sort.Var → (q : Place) → Among (entering q) (steps p) → Among n (named_by_node q.node.kind p.source_type q.node q.path) → (passed : List OpenScope) → ((z : OpenScope) → Among z passed → IsPassedAs p q z)
+      → (o : Declaration) → Among o all → o.naming.name ≡ x → contains (map (λ s. s.number) passed) o.route.target.number ≡ false
+  apart n there e is_var q entered at passed each o a f = elim (cases_Bool (contains (map (λ s. s.number) passed) o.route.target.number)) [
+    | inr i ↦ i
+    | inl i ↦ (let (z, in_passed, number) = contains_among passed o.route.target.number i in
+        let w : IsPassedAs p q z = each z in_passed in
+        let (m, b) = of_tables o a f in
+        let open_z : IsOpened (openers (steps p)) z = among_opened (openers (steps p)) q.chain z (each_among (IsPlaceOpened (openers (steps p))) (steps p) (entering q) (places_opened p) entered) w.around in
+        let opener : o.route.target.opener ≡ z.opener = one_opener o.route.target.opener z.opener (sym b.opened ∙ ap (slice_get (openers (steps p))) (sym number) ∙ open_z) in
+        absurd (simply.clear q entered n m at is_var e b.named b.named_so w.container w.among (sym b.pair.home.opener ∙ opener ∙ sym w.stands)))
+  ]
+
+  way_clear : (d : Declaration) (n : NamedDeclaration) → IsBoth d n → d.naming.name ≡ x → WayOf p d n
+      → (d.how ≡ plain) ⊎ ((d.how ≡ hoisted) × (IsVariable d × ((e : Declaration) → Among e all → e.naming.name ≡ d.naming.name → contains (map (λ s. s.number) d.route.passed) e.route.target.number ≡ false)))
+  way_clear d n b e (stays how) = inl how
+  way_clear d n b e (goes_out how variable is_var q entered at each) = inr (how, (variable, λ o a f. apart n b.named b.named_so is_var q entered at d.route.passed each o a (f ∙ e)))
+
+  -- where it is a function's own, the scope has nothing else
+  own_alone : (d : Declaration) (n : NamedDeclaration) → IsBoth d n → d.naming.name ≡ x → is_own_name d ≡ true → (o : Declaration) → Among o all → o.naming.name ≡ d.naming.name → o.route.target.number ≡ d.route.target.number → o.naming.identifier ≡ d.naming.identifier
+  own_alone d n b e i o a f number = elim b.pair.own [
+    | inl j ↦ absurd (never (sym i ∙ j))
+    | inr (is_name, at) ↦ (let (m, c) = of_tables o a (f ∙ e) in
+        let opener : o.route.target.opener ≡ d.route.target.opener = one_opener o.route.target.opener d.route.target.opener (sym c.opened ∙ ap (slice_get (openers (steps p))) number ∙ b.opened) in
+        ap (λ t. t.identifier) c.told ∙ simply.own n m b.named c.named b.named_so c.named_so is_name (sym c.pair.home.opener ∙ opener ∙ b.pair.home.opener) ∙ sym (ap (λ t. t.identifier) b.told))
+  ]
+
+  pub is_clear : AllClear all x
+  is_clear d a e = let (n, b) = of_tables d a e in record { lasting = b.pair.home.lasting; alone = own_alone d n b e; way = way_clear d n b e b.pair.how }
+
+  abbrev final : State
+  final = run start (events (steps p))
+
+  pub clear_state : ClearState (table_of p) (nearest p) all x final
+  clear_state = clear_at_last p h numbered x is_clear
 
   -- those in one scope have one symbol
   pub one_symbol : (m n : Made) → Among m (made_of p) → Among n (made_of p) → m.declaration.naming.name ≡ x → n.declaration.naming.name ≡ x → m.declaration.route.target.number ≡ n.declaration.route.target.number → m.symbol ≡ n.symbol
-  one_symbol m n a b e f i =
-      one_symbol_each p h m.declaration.route.target.number x (none_takes m.declaration.route.target.number) m n a b (binds_in m.declaration (of_made m a) e)
-      (subst (λ c. BindsIn c x n.declaration) (sym i) (binds_in n.declaration (of_made n b) f))
+  one_symbol m n a b e f i = one_opener m.symbol n.symbol (sym (clear_state.same m a e) ∙ ap (λ c. get final.bindings c x) i ∙ clear_state.same n b f)

@@ -1,5 +1,5 @@
 -- The declarations of the tables, by the nodes that declare; and a name that nothing declares.
-use Rattle.std.proofs.Common.{◌≡◌, ℕ, List, [], ◌∷◌, ◌++◌, Option, Some, None, Bool, true, false, ◌||◌, cond, map, flat_map, refl, sym, ap, subst, ◌∙◌, inl, inr, if◌then◌else◌, bytes_eq}
+use Rattle.std.proofs.Common.{◌≡◌, ℕ, List, [], ◌∷◌, ◌++◌, Option, Some, None, Bool, true, false, ◌||◌, cond, map, flat_map, refl, sym, ap, subst, ◌∙◌, inl, inr, ◌⊎◌, if◌then◌else◌, bytes_eq}
 use Rattle.std.specs.List.{list_any}
 use Rattle.semantic_kinds.specs.declared.kind.AstType.{AstType}
 use Rattle.semantic_kinds.specs.declared.kind.AstType.TheVariants as kind
@@ -104,6 +104,7 @@ pub record IsWritten (p : Tree) (d : Declaration) : Type 0 where
   pub count : ℕ
   pub written : Declaration
   pub among : Among written (declared_on_opening place (opened_scope place count) ++ declared_on_entering place)
+  pub opened : (Among (opening place (opened_scope place count)) (steps p)) ⊎ (Among written (declared_on_entering place))
   pub is_placed : placed (written_declarations (steps p)) written ≡ d
   pub naming_same : written.naming ≡ d.naming
 
@@ -133,11 +134,11 @@ module _ (p : Tree) where
   of_step : (st : Step) (e : Event) (d : Declaration) → Among st (steps p) → OfOpened (IsEnteredIn (steps p)) st → Among e (events_of ds st) → Among d (declared e) → IsWritten p d
   of_step (entering q) e d i o a b =
       let (w, c, r) = of_all (declared_on_entering q) e d a b in
-      record { place = q; entered = i; count = 0; written = w; among = among_right w (declared_on_opening q (opened_scope q 0)) (declared_on_entering q) c; is_placed = r; naming_same = sym (placed_naming w.how ds w) ∙ ap (λ z. z.naming) r }
+      record { place = q; entered = i; count = 0; written = w; among = among_right w (declared_on_opening q (opened_scope q 0)) (declared_on_entering q) c; opened = inr c; is_placed = r; naming_same = sym (placed_naming w.how ds w) ∙ ap (λ z. z.naming) r }
   of_step (opening q s) e d i o a b = elim (among_cases e (taken_over q s) (declares_all ds (declared_on_opening q s)) a) [
     | inl t ↦ absurd (taken (is_catch_body q) t)
     | inr t ↦ (let (w, c, r) = of_all (declared_on_opening q s) e d t b in
-        record { place = q; entered = o.0; count = o.1.0; written = w; among = among_left w (declared_on_opening q (opened_scope q o.1.0)) (declared_on_entering q) (subst (λ z. Among w (declared_on_opening q z)) o.1.1 c); is_placed = r; naming_same = sym (placed_naming w.how ds w) ∙ ap (λ z. z.naming) r })
+        record { place = q; entered = o.0; count = o.1.0; written = w; among = among_left w (declared_on_opening q (opened_scope q o.1.0)) (declared_on_entering q) (subst (λ z. Among w (declared_on_opening q z)) o.1.1 c); opened = inl (subst (λ z. Among (opening q z) (steps p)) o.1.1 i); is_placed = r; naming_same = sym (placed_naming w.how ds w) ∙ ap (λ z. z.naming) r })
   ]
     where
       taken : (t : Bool) → Among e (cond t (takes_over (place.innermost q.chain).number s.number ∷ []) []) → ⊥

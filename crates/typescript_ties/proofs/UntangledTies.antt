@@ -6,7 +6,6 @@ use Rattle.std.specs.Option.{is_some}
 use Rattle.std.specs.Prelude.{slice_get}
 use Rattle.std.proofs.lemmas.Bool.{cases_Bool, and_from, eq-eqb}
 use Rattle.std.proofs.lemmas.Bool.Decides.{eqb_tells}
-use Rattle.std.proofs.lemmas.Nat.{and_comm}
 use Rattle.semantic_syntax.proofs.Truth.{and_first, and_second, and_false}
 use Rattle.semantic_kinds.specs.declared.kind.AstType.TheVariants as kind
 use Rattle.semantic_syntax.specs.Lookup.{Seen, is_arguments, lookup}
@@ -23,9 +22,9 @@ use Rattle.semantic_model.specs.Analysis.{analysis_of, symbol_at}
 use Rattle.semantic_model.specs.Binding.{get}
 use Rattle.semantic_model.specs.Cursor.{way_or_read}
 use Rattle.semantic_model.specs.Entries.{Among, times}
-use Rattle.semantic_model.specs.Event.{events}
+use Rattle.semantic_model.specs.Event.{events, declarations}
 use Rattle.semantic_model.specs.Fits.{StandsUnder}
-use Rattle.semantic_model.specs.Fold.{State, Made, start, flags_of, flags_or_none}
+use Rattle.semantic_model.specs.Fold.{State, Made, start, flags_or_none}
 use Rattle.semantic_model.specs.FreeNames.{free_references}
 use Rattle.semantic_model.specs.Hoist.{run}
 use Rattle.semantic_model.specs.Place.{Place, OpenScope}
@@ -33,16 +32,20 @@ use Rattle.semantic_model.specs.Reference.{reference_at}
 use Rattle.semantic_model.specs.Step.{Step, entering, opening, header_ending, closing, leaving, steps}
 use Rattle.semantic_model.specs.TablesOf.{tables_of, made_of}
 use Rattle.semantic_model.specs.Tie.{seen_as, symbol_by}
+use Rattle.semantic_model.proofs.bindings.NearestVar.{nearest}
+use Rattle.semantic_model.proofs.fold.Orders.{table_of}
+use Rattle.semantic_model.proofs.bindings.Owned.{kept_program}
+use Rattle.semantic_model.proofs.bindings.Owners.{IsSymbolOf}
 use Rattle.semantic_model.proofs.form.Shape.{has_form}
+use Rattle.semantic_model.proofs.lists.BindingLaws.{get_among}
 use Rattle.semantic_model.proofs.lists.Members.{among_at}
 use Rattle.semantic_model.proofs.once.ListedUnder.{name_tells}
 use Rattle.semantic_model.proofs.once.ReferencesStand.{stand_once}
 use Rattle.program_laws.specs.SymbolNames.{IsNamed}
 use Rattle.program_laws.proofs.TiedNames.{ties_have_names, declarations_have_names}
 use Rattle.binding_laws.specs.SeenDeclarations.{seen_alone, with_declaration, bound_by_all, is_before_body, stands_before_body}
-use Rattle.binding_laws.proofs.ReferredNodes.{IsReferred, is_referred}
 use Rattle.tangle_model.specs.Mention.{mentions}
-use Rattle.tangle_model.specs.Tangled.{is_inner_alias, may_be_passed, is_merged_member, is_name_of, is_shared, any_symbol, holds_in, all_reasons, tangle_reasons}
+use Rattle.tangle_model.specs.Tangled.{is_bare_namespace, is_inner_alias, may_be_passed, is_merged_member, is_name_of, is_shared, any_symbol, holds_in, all_reasons, tangle_reasons}
 use Rattle.tangle_model.specs.declared.reason.Reason.{Reason}
 use Rattle.tangle_model.specs.declared.reason.Reason.TheVariants as reason
 use Rattle.typescript_ties.specs.AskedMeanings.{asked_by_reference}
@@ -52,12 +55,15 @@ use Rattle.typescript_ties.specs.ResolvedTies.{is_that_symbol, is_untied, is_tie
 use Rattle.typescript_ties.specs.SeenTogether.{is_in_scope, is_seen_from, bound_together, asked_together}
 use Rattle.typescript_ties.specs.SimpleNames.{is_common, HasOwnMembers, IsSimpleName}
 use Rattle.typescript_ties.proofs.AgreedPlaces.{Agrees, AllHave, IsMissed, Matches, AgreesRound, AgreedStep, looked_up, agreed_places, among_filter, filter_among, any_there}
-use Rattle.typescript_ties.proofs.FitsTogether.{meets_union, AreBoundAs, bound_as_one}
+use Rattle.typescript_ties.proofs.FitsTogether.{meets_union, meets_mask}
+use Rattle.typescript_ties.proofs.HiddenParameters.{asks_past_none}
 use Rattle.typescript_ties.proofs.HeadPlaces.{round_place}
 use Rattle.typescript_ties.proofs.OwnMembers.{own_members}
-use Rattle.typescript_ties.proofs.PlainFold.{PlainState}
-use Rattle.typescript_ties.proofs.SimpleDeclarations.{is_plain, one_symbol}
-use Rattle.typescript_ties.proofs.TiedTogether.{in_end, tied_together}
+use Rattle.typescript_ties.proofs.ClearFold.{ClearState}
+use Rattle.typescript_ties.proofs.ClearTies.{clearly_tied}
+use Rattle.typescript_ties.proofs.LikeFlags.{FlagsAlike, SeenAlike}
+use Rattle.binding_laws.proofs.ReferredNodes.{IsReferred, is_referred}
+use Rattle.typescript_ties.proofs.SimpleDeclarations.{is_clear, clear_state}
 use Rattle.typescript_ties.proofs.UndeclaredFree.{each_among}
 
 never : true ≡ false → ⊥
@@ -116,12 +122,6 @@ no_entry (f ∷ fs) x h = by (bytes_eq x f.0) refl h (no_entry fs x)
         ]
 
 -- ---- flags
-
-meets_swapped : (f m : ℕ) → meets f m ≡ meets m f
-meets_swapped f m = ap (λ n. not (n == 0)) (and_comm f m)
-
-meets_mask : (f a b : ℕ) → meets f (union a b) ≡ (meets f a || meets f b)
-meets_mask f a b = meets_swapped f (union a b) ∙ meets_union a b f ∙ (λ i. meets_swapped a f i || meets_swapped b f i)
 
 or_both : (a b : Bool) → (a || b) ≡ false → (a ≡ false) × (b ≡ false)
 or_both true b h = absurd (never h)
@@ -276,17 +276,20 @@ module _ (p : Tree) (h : first_fault p ≡ None) (common : is_common p ≡ true)
       by true false i j k = absurd (never (sym j))
       by false u i j k = absurd (never (sym i))
 
+  hidden : holds_in p.source_type (mentions p) (tables_of p) reason.HiddenParameter x ≡ false
+  hidden = holds_not reason.HiddenParameter (inr (inr (inr (inr (inr (inr (inr (inr (inr (inl refl))))))))))
+
   unmerged : any_symbol (is_merged_member (mentions p) (tables_of p)) (tables_of p).symbols x ≡ false
   unmerged = holds_not reason.MergedMember (inr (inr (inr (inr (inr (inr (inl refl)))))))
 
   alone_members : HasOwnMembers p x
-  alone_members = own_members p h common typed numbered x name.simply name.enums unmerged
-
-  plain : PlainState x (run start (events (steps p)))
-  plain = in_end p h x (is_plain p h common typed numbered x name.simply)
+  alone_members = own_members p h common typed numbered x name.simply unmerged
 
   abbrev final : State
   final = run start (events (steps p))
+
+  clear : ClearState (table_of p) (nearest p) (declarations (events (steps p))) x final
+  clear = clear_state p h common typed numbered x name.simply
 
   -- ---- a reference
 
@@ -297,8 +300,8 @@ module _ (p : Tree) (h : first_fault p ≡ None) (common : is_common p ≡ true)
     abbrev w : ℕ
     w = way_or_read q.cursor
 
-    tied_is : referred.entry.symbol_id ≡ looked_up p h common typed numbered x no_arguments name.simply alone_members name.types w q.chain
-    tied_is = tied_together p h x (is_plain p h common typed numbered x name.simply) referred.number (reference_at q) referred.entry referred.reference referred.row is_x
+    tied_is : referred.entry.symbol_id ≡ looked_up p h common typed numbered x no_arguments name.simply alone_members w q.chain
+    tied_is = clearly_tied p h numbered x (is_clear p h common typed numbered x name.simply) referred.number (reference_at q) referred.entry referred.reference referred.row is_x
 
     -- it isn't free
     never_free : referred.entry.symbol_id ≡ None → ⊥
@@ -310,34 +313,46 @@ module _ (p : Tree) (h : first_fault p ≡ None) (common : is_common p ≡ true)
         absurd (omega (arith, zero_is))
 
     -- nor is a namespace passed that is no type
-    module _ (m : IsMissed p h common typed numbered x no_arguments name.simply alone_members name.types w) where
+    module _ (m : IsMissed p h common typed numbered x no_arguments name.simply alone_members w) where
       m_named : m.made.declaration.naming.name ≡ x
       m_named = elim (name_tells m.made.declaration.naming.name x) [ inl j ↦ j.1 | inr j ↦ absurd (never (sym (and_second (m.made.declaration.route.target.number == m.scope) (bytes_eq m.made.declaration.naming.name x) m.in_it) ∙ j.0)) ]
 
       missed_symbol : IsNamed (tables_of p) m.number x
       missed_symbol = subst (λ y. IsNamed (tables_of p) y x) m.is (subst (IsNamed (tables_of p) m.made.symbol) m_named (declarations_have_names p (has_form p h) m.made m.among))
 
+      alike : SeenAlike (seen_as final (get final.bindings m.scope x)) (Some (record { symbol = m.number; flags = m.flags }))
+      alike = subst (SeenAlike (seen_as final (get final.bindings m.scope x))) m.bound (clear.counted m.scope)
+
       bound_there : get final.bindings m.scope x ≡ Some m.number
-      bound_there = by (get final.bindings m.scope x) (plain.counted m.scope ∙ m.bound)
+      bound_there = by (get final.bindings m.scope x) alike
         where
-          by : (o : Option ℕ) → seen_as final o ≡ Some (record { symbol = m.number; flags = m.flags }) → o ≡ Some m.number
-          by None e = absurd cc
-          by (Some y) e = ap Some (ap (λ (s : Seen). s.symbol) (seen_is (record { symbol = y; flags = flags_of final y }) (record { symbol = m.number; flags = m.flags }) e))
+          by : (o : Option ℕ) → SeenAlike (seen_as final o) (Some (record { symbol = m.number; flags = m.flags })) → o ≡ Some m.number
+          by None e = absurd e
+          by (Some y) e = ap Some e.0
 
-      flags_there : flags_of final m.number ≡ m.flags
-      flags_there = by (get final.bindings m.scope x) bound_there (plain.counted m.scope ∙ m.bound)
+      missed_flags : FlagsAlike missed_symbol.symbol.flags.bits m.flags
+      missed_flags = subst (λ f. FlagsAlike f m.flags) (sym (ap flags_or_none (sym missed_symbol.is_there))) (subst (λ o. SeenAlike (seen_as final o) (Some (record { symbol = m.number; flags = m.flags }))) bound_there alike).1
+
+      -- the scope of the symbol is the one that binds it
+      scope_there : missed_symbol.symbol.scope ≡ m.scope
+      scope_there =
+          let own : IsSymbolOf final.symbols m.scope x m.number = (kept_program p (has_form p h)).owned (record { scope = m.scope; name = x; symbol = m.number }) (get_among final.bindings m.scope x m.number bound_there) in
+          ap (λ y. y.scope) (same_symbol missed_symbol.symbol own.symbol (sym missed_symbol.is_there ∙ own.is_there)) ∙ own.stands
         where
-          by : (o : Option ℕ) → o ≡ Some m.number → seen_as final o ≡ Some (record { symbol = m.number; flags = m.flags }) → flags_of final m.number ≡ m.flags
-          by None i e = absurd cc
-          by (Some y) i e =
-              let same : y ≡ m.number = cc in
-              ap (flags_of final) (sym same) ∙ ap (λ (s : Seen). s.flags) (seen_is (record { symbol = y; flags = flags_of final y }) (record { symbol = m.number; flags = m.flags }) e)
-
-      missed_flags : missed_symbol.symbol.flags.bits ≡ m.flags
-      missed_flags = ap flags_or_none (sym missed_symbol.is_there) ∙ flags_there
+          same_symbol : (y z : Symbol) → Some y ≡ Some z → y ≡ z
+          same_symbol y z e = cc
 
       is_passed : may_be_passed missed_symbol.symbol ≡ true
-      is_passed = ap (λ b. b || is_inner_alias missed_symbol.symbol) (subst (λ f. ((meets f symbol.ValueModule.bits || meets f symbol.NamespaceModule.bits) && not (meets f symbol.TypeFlag.bits)) ≡ true) (sym missed_flags) (bare m.flags m.namespace m.no_type))
+      is_passed = elim m.passed [
+        | inl (namespace, no_type) ↦ ap (λ b. b || is_inner_alias missed_symbol.symbol) (bare missed_symbol.symbol.flags.bits (missed_flags symbol.AsNamespace.bits refl ∙ namespace) (missed_flags symbol.ByType.bits refl ∙ no_type))
+        | inr (import, inner) ↦ or_last (is_bare_namespace missed_symbol.symbol) (is_inner_alias missed_symbol.symbol)
+            (and_from (meets missed_symbol.symbol.flags.bits symbol.Import.bits || meets missed_symbol.symbol.flags.bits symbol.TypeImport.bits) (not (missed_symbol.symbol.scope == 0))
+            (or_last (meets missed_symbol.symbol.flags.bits symbol.Import.bits) (meets missed_symbol.symbol.flags.bits symbol.TypeImport.bits) (missed_flags symbol.TypeImport.bits refl ∙ import)) (ap (λ c. not (c == 0)) scope_there ∙ ap not inner))
+      ]
+        where
+          or_last : (a b : Bool) → b ≡ true → (a || b) ≡ true
+          or_last true b e = refl
+          or_last false b e = e
 
       alone : is_shared (tables_of p).symbols x ≡ false
       alone = not_shared (any_there (λ y. may_be_passed y && bytes_eq x y.name) (tables_of p).symbols missed_symbol.symbol (among_at (tables_of p).symbols m.number missed_symbol.symbol missed_symbol.is_there)
@@ -355,31 +370,13 @@ module _ (p : Tree) (h : first_fault p ≡ None) (common : is_common p ≡ true)
 
           -- that scope binds it, too
           bound_own : get final.bindings c x ≡ Some m.number
-          bound_own = by (filter (is_in_scope c x) (made_of p)) refl (get final.bindings c x) (plain.counted c)
-            where
-              all_one : (z : Made) → Among z (filter (is_in_scope c x) (made_of p)) → z.symbol ≡ m.number
-              all_one z b =
-                  let (i, j) = among_filter (is_in_scope c x) (made_of p) z b in
-                  let number : z.declaration.route.target.number ≡ c = elim (eqb_tells z.declaration.route.target.number c) [ inl k ↦ k.1 | inr k ↦ absurd (never (sym (and_first (z.declaration.route.target.number == c) (bytes_eq z.declaration.naming.name x) j) ∙ k.0)) ] in
-                  let z_named : z.declaration.naming.name ≡ x = elim (name_tells z.declaration.naming.name x) [ inl k ↦ k.1 | inr k ↦ absurd (never (sym (and_second (z.declaration.route.target.number == c) (bytes_eq z.declaration.naming.name x) j) ∙ k.0)) ] in
-                  one_symbol p h common typed numbered x name.simply z y i a z_named named number ∙ same
-
-              by : (l : List Made) → filter (is_in_scope c x) (made_of p) ≡ l → (o : Option ℕ) → seen_as final o ≡ bound_by_all (filter (is_in_scope c x) (made_of p)) → o ≡ Some m.number
-              by [] e o i = absurd (subst (Among y) e (filter_among (is_in_scope c x) (made_of p) y a in_own))
-              by (z ∷ zs) e o i =
-                  let all : (v : Made) → Among v (z ∷ zs) → v.symbol ≡ m.number = λ v b. all_one v (subst (Among v) (sym e) b) in
-                  let together : AreBoundAs (z ∷ zs) m.number = bound_as_one z zs m.number all in
-                  of_seen o together.flags (i ∙ ap bound_by_all e ∙ together.bound)
-                where
-                  of_seen : (o : Option ℕ) (f : ℕ) → seen_as final o ≡ Some (record { symbol = m.number; flags = f }) → o ≡ Some m.number
-                  of_seen None f j = absurd cc
-                  of_seen (Some v) f j = ap Some (ap (λ (s : Seen). s.symbol) (seen_is (record { symbol = v; flags = flags_of final v }) (record { symbol = m.number; flags = f }) j))
+          bound_own = clear.same y a named ∙ ap Some same
 
           in_scope : is_in_scope m.scope x y ≡ true
-          in_scope = subst (λ d. is_in_scope d x y ≡ true) (plain.apart c m.scope m.number bound_own bound_there) in_own
+          in_scope = subst (λ d. is_in_scope d x y ≡ true) (clear.apart c m.scope m.number bound_own bound_there) in_own
 
       -- the look-up doesn't find its symbol
-      never_that : looked_up p h common typed numbered x no_arguments name.simply alone_members name.types w q.chain ≡ Some m.number → ⊥
+      never_that : looked_up p h common typed numbered x no_arguments name.simply alone_members w q.chain ≡ Some m.number → ⊥
       never_that e =
           let found : IsFoundAt p x w m.number = found_at p x w no_arguments m.number q.chain e in
           let more : (mask : ℕ) → meets found.flags mask ≡ true → meets m.flags mask ≡ true = λ mask i. from_scope found.scope (bound_from (filter (is_seen_from found.scope x) (made_of p)) m.number found.flags mask found.bound i) in
@@ -402,22 +399,22 @@ module _ (p : Tree) (h : first_fault p ≡ None) (common : is_common p ≡ true)
               let same : y ≡ m.number = two_share (tables_of p).symbols y m.number other.symbol missed_symbol.symbol x other.is_there missed_symbol.is_there other.named missed_symbol.named alone in
               never_that (sym tied_is ∙ e ∙ ap Some same)
 
-    tied_to_all : (ids : List ℕ) (y : ℕ) → AllHave p h common typed numbered x no_arguments name.simply alone_members name.types ids y → list_all (λ i. is_that_symbol y (symbol_at (analysis_of p) i)) ids ≡ true
+    tied_to_all : (ids : List ℕ) (y : ℕ) → AllHave p h common typed numbered x no_arguments name.simply alone_members ids y → list_all (λ i. is_that_symbol y (symbol_at (analysis_of p) i)) ids ≡ true
     tied_to_all [] y k = refl
     tied_to_all (i ∷ ids) y k =
         let one : is_that_symbol y (symbol_at (analysis_of p) i) ≡ true = ap (is_that_symbol y) k.0 ∙ eq-eqb y y refl in
         rw one (tied_to_all ids y k.1)
 
-    agrees_so : (o : Option ℕ) (r : Resolved) → referred.entry.symbol_id ≡ o → Agrees p h common typed numbered x no_arguments name.simply alone_members name.types o r → is_tied_as_resolved (analysis_of p) q.node.node_id r ≡ true
+    agrees_so : (o : Option ℕ) (r : Resolved) → referred.entry.symbol_id ≡ o → Agrees p h common typed numbered x no_arguments name.simply alone_members o r → is_tied_as_resolved (analysis_of p) q.node.node_id r ≡ true
     agrees_so o nowhere e a = ap is_untied (referred.tied ∙ e ∙ a)
     agrees_so o (declared_in c ids) e a = ap (is_tied_to_each (analysis_of p) ids) (referred.tied ∙ e ∙ a.1) ∙ tied_to_all ids a.0 a.2
 
     pub use_agrees : is_use_tied (analysis_of p) (named_in p) (name_use p.source_type q) ≡ true
     use_agrees =
-        let agree : AgreesRound p h common typed numbered x no_arguments name.simply alone_members name.types q = each_among (AgreedStep p h common typed numbered x no_arguments name.simply alone_members name.types) (steps p) (entering q) (agreed_places p h common typed numbered x no_arguments name.simply alone_members name.types) entered in
-        let matches : Matches p h common typed numbered x no_arguments name.simply alone_members name.types w (looked_up p h common typed numbered x no_arguments name.simply alone_members name.types w q.chain) (resolve (named_in p) (round_place p q) (asked_by_reference q.path) x) = agree (asked_by_reference q.path) w (name.ways q entered refers is_x) in
+        let agree : AgreesRound p h common typed numbered x no_arguments name.simply alone_members q = (each_among (AgreedStep p h common typed numbered x no_arguments name.simply alone_members) (steps p) (entering q) (agreed_places p h common typed numbered x no_arguments name.simply alone_members) entered).0 in
+        let matches : Matches p h common typed numbered x no_arguments name.simply alone_members w (looked_up p h common typed numbered x no_arguments name.simply alone_members w q.chain) (resolve (named_in p) (round_place p q) (asked_by_reference q.path) x) = agree (asked_by_reference q.path) w (name.ways q entered refers is_x) (asks_past_none p h common typed numbered x name.simply hidden q entered refers is_x) in
         let there : is_tied_as_resolved (analysis_of p) q.node.node_id (resolve (named_in p) (round_place p q) (asked_by_reference q.path) x) ≡ true = elim matches [
-          | inl a ↦ agrees_so (looked_up p h common typed numbered x no_arguments name.simply alone_members name.types w q.chain) (resolve (named_in p) (round_place p q) (asked_by_reference q.path) x) tied_is a
+          | inl a ↦ agrees_so (looked_up p h common typed numbered x no_arguments name.simply alone_members w q.chain) (resolve (named_in p) (round_place p q) (asked_by_reference q.path) x) tied_is a
           | inr b ↦ elim b [
             | inl m ↦ absurd (never_missed m)
             | inr f ↦ absurd (never_free (tied_is ∙ f.free))

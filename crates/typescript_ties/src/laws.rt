@@ -33,9 +33,9 @@ pub fn plain_names_are_tied_together()
         → AreTiedTogether p name }
 {}
 
-/// Tables and language agree on each reference of a name that isn't tangled and is simple, in a program of TypeScript without `with` and
-/// without decorators of parameters: the reference is tied to the symbol of all declarations that the nearest container has of the
-/// name which has one in a meaning that is asked for, and free exactly where none has. Whether a name is simple can be tried.
+/// Tables and language agree on each reference of a name that isn't tangled and is simple, in a program of TypeScript without `with`:
+/// the reference is tied to the symbol of all declarations that the nearest container has of the name which has one in a meaning
+/// that is asked for, and free exactly where none has. Whether a name is simple can be tried.
 pub fn untangled_names_are_tied_as_they_mean()
     ensures agree { (p : Tree) (name : Name) → first_fault p ≡ None → is_common p ≡ true
         → is_typescript p.source_type ≡ true → IsNumbered p.root → tangle_reasons p name ≡ []

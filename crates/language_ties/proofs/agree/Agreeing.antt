@@ -1,5 +1,5 @@
 -- Place by place, the nearest scope that binds a plain name has the symbol of the identifiers by which the nearest environment binds it.
-use Rattle.std.proofs.Common.{◌≡◌, ℕ, suc, List, [], ◌∷◌, ◌++◌, Option, Some, None, Bool, true, false, ◌&&◌, ◌||◌, not, cond, map, length, inl, inr, refl, sym, ap, subst, ◌∙◌, bytes_eq, codes, arith}
+use Rattle.std.proofs.Common.{◌≡◌, ℕ, List, [], ◌∷◌, ◌++◌, Option, Some, None, Bool, true, false, ◌&&◌, ◌||◌, not, cond, map, inl, inr, refl, sym, ap, subst, ◌∙◌, bytes_eq, codes}
 use Rattle.std.specs.Prelude.{slice_get}
 use Rattle.std.proofs.lemmas.Bool.{not-true}
 use Rattle.semantic_syntax.proofs.Truth.{and_first, and_second, and_false}
@@ -40,7 +40,9 @@ use Rattle.walk_model.proofs.places.Shapes.{holds_below}
 use Rattle.binding_laws.proofs.ChildChains.{ChainOf, outer_chain, inner_chain, OwnOf, own_of, no_decorator, chain_of}
 use Rattle.binding_laws.proofs.CutSteps.{WillAwait}
 use Rattle.binding_laws.proofs.EnteredOnce.{entered_once}
+use Rattle.binding_laws.proofs.ListLaws.{each_at}
 use Rattle.binding_laws.proofs.ScopeOpeners.{openers, IsOpened, AllOpened}
+use Rattle.binding_laws.proofs.SmallLaws.{cons_self, never, some_is}
 use Rattle.language_ties.specs.AgreeingNames.{IsPlainName, StandsInExpressions}
 use Rattle.language_ties.specs.Bound.{Bound, is_bound_as}
 use Rattle.language_ties.specs.EcmaScript.{is_ecmascript}
@@ -55,7 +57,7 @@ use Rattle.language_ties.specs.declared.environment_kind.EnvironmentKind.TheVari
 use Rattle.language_ties.proofs.agree.FamiliarPlaces.{stands_well, is_function_kind, IsFamiliar, FamiliarAt, familiar_program}
 use Rattle.language_ties.proofs.agree.FunctionKinds.{function_kinds, arrow_kinds, IsOrdinary}
 use Rattle.language_ties.proofs.agree.Identifiers.{identifier_here, meaning_further, meaning_here}
-use Rattle.language_ties.proofs.agree.KnownBounds.{some_is, KnownBound}
+use Rattle.language_ties.proofs.agree.KnownBounds.{KnownBound}
 use Rattle.language_ties.proofs.agree.KnownNodes.{node_at}
 use Rattle.language_ties.proofs.agree.MadeEnvironments.{may_make, environment_kind_is, EndsAtProgram, innermost_among}
 use Rattle.language_ties.proofs.agree.PlainBounds.{no_class}
@@ -68,19 +70,11 @@ use Rattle.language_ties.proofs.moved.Settled.{settled_bounds, bound_as_settled}
 use Rattle.language_ties.proofs.own_names.AnyBounds.{AnyBound, any_bound}
 use Rattle.language_ties.proofs.own_names.OwnBounds.{IsOfExpression, OwnBound, own_maker}
 use Rattle.language_ties.proofs.own_names.OwnSymbols.{HasSymbol, class_symbol}
-use Rattle.language_ties.proofs.symbols.OneSymbol.{each_at}
 use Rattle.language_ties.proofs.agree.ClauseBlocks.{body_agrees, round_child}
 use Rattle.language_ties.proofs.agree.PlaceAgreement.{outside_innermost, AllAre, Matches, Agrees, AgreesRound, AgreesBy, AgreesAt}
 use Rattle.language_ties.proofs.agree.ScopeAnswers as scopes
 use Rattle.language_ties.proofs.agree.SeenPlaces.{IsSeen, SeenAt, seen_program}
 use Rattle.language_ties.proofs.agree.ScopeAnswers.{arrow_rest, class_here, directly, environment_is, function, further, here, is_here, is_there, no_if_body, none_there, one, own_rest, unanswered, unusual, visible}
-
--- a list is not longer than itself
-cons_self : {A : Type 0} (x : A) (xs : List A) → x ∷ xs ≡ xs → ⊥
-cons_self x xs h = let w : suc (length xs) ≡ length xs = ap length h in omega (arith, w)
-
-never : true ≡ false → ⊥
-never h = absurd cc
 
 module _ (p : Tree) (h : first_fault p ≡ None) (e : is_ecmascript p ≡ true) (numbered : IsNumbered p.root) (x : Name) (not_arguments : bytes_eq x (codes "arguments") ≡ false) (clear : AllKeepClear x (declarations (events (steps p)))) (plain : IsPlainName p x) where
   abbrev es : List Event

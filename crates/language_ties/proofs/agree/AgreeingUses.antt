@@ -14,9 +14,10 @@ use Rattle.semantic_model.specs.Event.{declarations, events, is_catch_body}
 use Rattle.semantic_model.specs.Fold.{start}
 use Rattle.semantic_model.specs.Hoist.{run}
 use Rattle.semantic_model.specs.Place.{Place}
-use Rattle.semantic_model.specs.Reference.{reference_at, references}
+use Rattle.semantic_model.specs.Reference.{reference_at}
 use Rattle.semantic_model.specs.Step.{entering, steps}
 use Rattle.semantic_model.proofs.form.Clauses.{kind_is}
+use Rattle.binding_laws.proofs.ListLaws.{each_at}
 use Rattle.binding_laws.proofs.ReferredNodes.{IsReferred, is_referred}
 use Rattle.language_ties.specs.Agreement.{is_symbol, is_none, is_tied_as_bound, agrees, use_agrees, use_agrees_past_objects}
 use Rattle.tangle_model.specs.Surroundings.{in_with_under}
@@ -33,7 +34,6 @@ use Rattle.language_ties.proofs.caught.CaughtBounds.{no_block}
 use Rattle.language_ties.proofs.moved.BlockMeanings.{as_language, expressed}
 use Rattle.language_ties.proofs.moved.Settled.{bound_as_settled}
 use Rattle.language_ties.proofs.nearest.NearestTies.{tied_nearest}
-use Rattle.language_ties.proofs.symbols.OneSymbol.{each_at}
 use Rattle.language_ties.specs.Bound.{written}
 use Rattle.language_ties.proofs.with_bodies.PastObjects.{same_outside}
 

@@ -19,6 +19,7 @@ use Rattle.semantic_model.proofs.fold.Orders.{table_of}
 use Rattle.semantic_model.proofs.form.Clauses.{kind_is}
 use Rattle.binding_laws.proofs.ChildChains.{ChainOf, outer_chain, inner_chain}
 use Rattle.binding_laws.proofs.ScopeOpeners.{openers, IsOpened, AllOpened}
+use Rattle.binding_laws.proofs.SmallLaws.{never}
 use Rattle.language_ties.specs.AgreeingNames.{IsPlainName, StandsInExpressions}
 use Rattle.language_ties.specs.Bound.{Bound}
 use Rattle.language_ties.specs.EcmaScript.{is_ecmascript}
@@ -37,9 +38,6 @@ use Rattle.language_ties.proofs.shared.HomesShared.{none_in_clause}
 use Rattle.language_ties.proofs.agree.ScopeAnswers.{clause_block}
 use Rattle.language_ties.proofs.agree.PlaceAgreement.{outside_innermost, Matches, Agrees, AgreesRound}
 use Rattle.language_ties.proofs.agree.SeenPlaces.{IsSeen}
-
-never : true ≡ false → ⊥
-never h = absurd cc
 
 module _ (p : Tree) (h : first_fault p ≡ None) (e : is_ecmascript p ≡ true) (numbered : IsNumbered p.root) (x : Name) (not_arguments : bytes_eq x (codes "arguments") ≡ false) (clear : AllKeepClear x (declarations (events (steps p)))) (plain : IsPlainName p x) where
   abbrev es : List Event

@@ -20,11 +20,11 @@ use Rattle.semantic_tree.specs.Views.{is}
 use Rattle.semantic_tree.specs.declared.node.Node.{Node}
 use Rattle.semantic_model.specs.Cursor.{on_entering}
 use Rattle.semantic_model.specs.EachStep.{EachStep}
-use Rattle.semantic_model.specs.Inside.{body_number, is_inside, is_in_header, is_parameter_decorator}
+use Rattle.semantic_model.specs.Inside.{body_number, is_in_header}
 use Rattle.semantic_model.specs.Entries.{Among}
-use Rattle.semantic_model.specs.Place.{Place, OpenScope, innermost, outside}
+use Rattle.semantic_model.specs.Place.{Place, OpenScope, innermost}
 use Rattle.semantic_model.specs.ScopeKind.{opened_scope}
-use Rattle.semantic_model.specs.Step.{Step, entering, opening, header_ending, closing, leaving, steps_below, steps, root_place, scope_at, child_place, child_scopes}
+use Rattle.semantic_model.specs.Step.{Step, entering, opening, header_ending, closing, leaving, steps_below, steps, root_place}
 use Rattle.semantic_model.proofs.form.Clauses.{kind_is}
 use Rattle.semantic_model.proofs.form.ParameterShape.{is_parameter}
 use Rattle.semantic_model.proofs.form.PartsHold.{passed_hold}
@@ -33,6 +33,9 @@ use Rattle.semantic_model.proofs.steps.EachStep.{each_of_node, each_of_turn}
 use Rattle.semantic_model.proofs.steps.Turn.{Turn, turn_at}
 use Rattle.semantic_model.proofs.steps.TurnCases.{opening_case, ending_case, last_case}
 use Rattle.walk_model.proofs.places.Shapes.{holds_below, tree_holds}
+use Rattle.binding_laws.proofs.ListLaws.{each_at}
+use Rattle.binding_laws.proofs.ScopesRound.{AllRound, OwnRound, own_round, child_round}
+use Rattle.binding_laws.proofs.SmallLaws.{implied}
 use Rattle.language_ties.specs.EcmaScript.{is_ecmascript_kind, is_ecmascript_forest, is_ecmascript}
 use Rattle.language_ties.proofs.agree.KnownNodes.{node_at, AllFound, all_found, root_found}
 use Rattle.language_ties.proofs.agree.MadeEnvironments.{EndsAtProgram}
@@ -65,10 +68,6 @@ unfolding lists_part
 all_lists kind.Program text = refl
 all_lists _ text = refl
 
-not_or : (a b : Bool) → (not a || b) ≡ true → a ≡ true → b ≡ true
-not_or true b h e = h
-not_or false b h e = absurd cc
-
 part_lists : (k : AstType) (part : Part) (k2 : AstType) (text : List ℕ) → lists_part k text part ≡ true → is_of part.class k2 text ≡ true → is_parent k k2 ≡ true
 unfolding lists_part
 part_lists k part k2 text h i =
@@ -77,11 +76,11 @@ part_lists k part k2 text h i =
     let second : (not (is_of part.class kind.FormalParameter text) || same_kind k kind.FormalParameters) ≡ true = and_first (not (is_of part.class kind.FormalParameter text) || same_kind k kind.FormalParameters) _ rest in
     let third : (not (is_of part.class kind.FormalParameterRest text) || same_kind k kind.FormalParameters) ≡ true = and_second (not (is_of part.class kind.FormalParameter text) || same_kind k kind.FormalParameters) _ rest in
     elim (cases_Bool (same_kind k2 kind.FormalParameters)) [
-      | inl e ↦ rw e (not_or (is_of part.class kind.FormalParameters text) (is_function_kind k || not (is_ecmascript_kind k)) first (subst (λ q. is_of part.class q text ≡ true) (kind_is k2 kind.FormalParameters e) i))
+      | inl e ↦ rw e (implied (is_of part.class kind.FormalParameters text) (is_function_kind k || not (is_ecmascript_kind k)) first (subst (λ q. is_of part.class q text ≡ true) (kind_is k2 kind.FormalParameters e) i))
       | inr e ↦ rw e (elim (cases_Bool (same_kind k2 kind.FormalParameter)) [
-        | inl f ↦ rw f (not_or (is_of part.class kind.FormalParameter text) (same_kind k kind.FormalParameters) second (subst (λ q. is_of part.class q text ≡ true) (kind_is k2 kind.FormalParameter f) i))
+        | inl f ↦ rw f (implied (is_of part.class kind.FormalParameter text) (same_kind k kind.FormalParameters) second (subst (λ q. is_of part.class q text ≡ true) (kind_is k2 kind.FormalParameter f) i))
         | inr f ↦ rw f (elim (cases_Bool (same_kind k2 kind.FormalParameterRest)) [
-          | inl g ↦ rw g (not_or (is_of part.class kind.FormalParameterRest text) (same_kind k kind.FormalParameters) third (subst (λ q. is_of part.class q text ≡ true) (kind_is k2 kind.FormalParameterRest g) i))
+          | inl g ↦ rw g (implied (is_of part.class kind.FormalParameterRest text) (same_kind k kind.FormalParameters) third (subst (λ q. is_of part.class q text ≡ true) (kind_is k2 kind.FormalParameterRest g) i))
           | inr g ↦ rw g refl
         ])
       ])
@@ -132,8 +131,7 @@ module _ (g : ℕ → Option Node) where
   IsClauseScope s = (b : ℕ) → s.body ≡ Some b → (x : Node) × (g s.opener ≡ Some x) × (x.kind ≡ kind.CatchClause)
 
   abbrev pub AllClauseScopes : List OpenScope → Type 0
-  AllClauseScopes [] = Unit {0}
-  AllClauseScopes (s ∷ ss) = IsClauseScope s × AllClauseScopes ss
+  AllClauseScopes chain = AllRound IsClauseScope chain
 
   abbrev StandsUnder : Role → AstType → List Node → Type 0
   StandsUnder r k [] = Unit {0}
@@ -156,10 +154,6 @@ module _ (g : ℕ → Option Node) where
   FamiliarAt (closing q o) = Unit {0}
   FamiliarAt (leaving q) = Unit {0}
 
-  abbrev OwnClause : Option OpenScope → Type 0
-  OwnClause None = Unit {0}
-  OwnClause (Some s) = IsClauseScope s
-
   opened_clause : (p : Place) (n : ℕ) → g p.node.node_id ≡ Some p.node → IsClauseScope (opened_scope p n)
   opened_clause p n k b q = go (is kind.CatchClause p.node) refl q
     where
@@ -167,40 +161,13 @@ module _ (g : ℕ → Option Node) where
       go true e w = (p.node, k, kind_is p.node.kind kind.CatchClause e)
       go false e w = absurd cc
 
-  own_clause : (p : Place) (r : Role) (own : Option OpenScope) (n : ℕ) → g p.node.node_id ≡ Some p.node → OwnClause own → OwnClause (scope_at p r own n)
-  own_clause p r (Some s) n k h = h
-  own_clause p r None n k h = go (is_inside p.node.kind r)
-    where
-      go : (t : Bool) → OwnClause (cond t (Some (opened_scope p n)) None)
-      go true = opened_clause p n k
-      go false = tt
-
-  outside_clauses : (ss : List OpenScope) → AllClauseScopes ss → AllClauseScopes (outside ss)
-  outside_clauses [] h = tt
-  outside_clauses (s ∷ ss) h = h.1
-
-  within_clauses : (p : Place) (r : Role) (own : Option OpenScope) → AllClauseScopes p.chain → OwnClause own → AllClauseScopes (child_scopes p r own)
-  within_clauses p r None a o = a
-  within_clauses p r (Some s) a o = go (is_inside p.node.kind r)
-    where
-      go : (t : Bool) → AllClauseScopes (cond t (record s { in_header = is_in_header p.node.kind r } ∷ p.chain) p.chain)
-      go true = (o, a)
-      go false = a
-
-  child_clauses : (p : Place) (own : Option OpenScope) (cursor : ℕ) (r : Role) (node : Node) → AllClauseScopes p.chain → OwnClause own → AllClauseScopes (child_place p own cursor r node).chain
-  child_clauses p own cursor r node a o = go (is_parameter_decorator p.node.kind r)
-    where
-      go : (t : Bool) → AllClauseScopes (cond t (outside p.chain) (child_scopes p r own))
-      go true = outside_clauses p.chain a
-      go false = within_clauses p r own a o
-
   undecorated_here : (k : AstType) (r : Role) (rest more : Bool) → ((is_ecmascript_kind k && not (same_role r role.Decorators)) && rest && more) ≡ true → same_role r role.Decorators ≡ false
   undecorated_here k r rest more h = not-true (same_role r role.Decorators) (and_second (is_ecmascript_kind k) (not (same_role r role.Decorators)) (and_first (is_ecmascript_kind k && not (same_role r role.Decorators)) rest (and_first ((is_ecmascript_kind k && not (same_role r role.Decorators)) && rest) more h)))
 
   kind_here : (k : AstType) (r : Role) (rest more : Bool) → ((is_ecmascript_kind k && not (same_role r role.Decorators)) && rest && more) ≡ true → is_ecmascript_kind k ≡ true
   kind_here k r rest more h = and_first (is_ecmascript_kind k) (not (same_role r role.Decorators)) (and_first (is_ecmascript_kind k && not (same_role r role.Decorators)) rest (and_first ((is_ecmascript_kind k && not (same_role r role.Decorators)) && rest) more h))
 
-  familiar_steps : (p : Place) (own : Option OpenScope) (n cursor : ℕ) (f : Forest) → IsFamiliar p → AllFound g f → OwnClause own → is_ecmascript_forest f ≡ true → holds_below stands_well p.node.kind f ≡ true → holds_below (λ i r j text. is_parent i j) p.node.kind f ≡ true → EachStep FamiliarAt (steps_below p own n cursor f)
+  familiar_steps : (p : Place) (own : Option OpenScope) (n cursor : ℕ) (f : Forest) → IsFamiliar p → AllFound g f → OwnRound IsClauseScope own → is_ecmascript_forest f ≡ true → holds_below stands_well p.node.kind f ≡ true → holds_below (λ i r j text. is_parent i j) p.node.kind f ≡ true → EachStep FamiliarAt (steps_below p own n cursor f)
   familiar_steps p own n cursor nothing k a o e w l = last_case (EachStep FamiliarAt) p own n tt (tt, (tt, tt))
   familiar_steps p own n cursor (tree r k2 span text marks below id after) k a o e w l =
       let node : Node = record { kind = k2; span = span; text = text; marks = marks; children = below; node_id = id } in
@@ -208,12 +175,12 @@ module _ (g : ℕ → Option Node) where
       let forests : (is_ecmascript_forest below ≡ true) × (is_ecmascript_forest after ≡ true) = forests_plain _ below after e in
       let well : (holds_below stands_well k2 below && holds_below stands_well p.node.kind after) ≡ true = and_second (stands_well p.node.kind r k2 text) (holds_below stands_well k2 below && holds_below stands_well p.node.kind after) w in
       let lists : (holds_below (λ i r j text. is_parent i j) k2 below && holds_below (λ i r j text. is_parent i j) p.node.kind after) ≡ true = and_second (is_parent p.node.kind k2) (holds_below (λ i r j text. is_parent i j) k2 below && holds_below (λ i r j text. is_parent i j) p.node.kind after) l in
-      let o_scope : OwnClause turn.scope = own_clause p r own n k.node o in
+      let o_scope : OwnRound IsClauseScope turn.scope = own_round IsClauseScope p r own n (opened_clause p n k.node) o in
       let child : IsFamiliar turn.child = record {
         node = a.0;
         path = (k.node, k.path);
         rooted = k.rooted;
-        clauses = child_clauses p turn.scope cursor r node k.clauses o_scope;
+        clauses = child_round IsClauseScope (λ z b h. h) p turn.scope cursor r node k.clauses o_scope;
         undecorated = undecorated_here k2 r _ _ e;
         stands = and_first (stands_well p.node.kind r k2 text) (holds_below stands_well k2 below && holds_below stands_well p.node.kind after) w;
         parents = (and_first (is_parent p.node.kind k2) (holds_below (λ i r j text. is_parent i j) k2 below && holds_below (λ i r j text. is_parent i j) p.node.kind after) l, k.ecmascript, k.parents);
@@ -242,3 +209,6 @@ familiar_program p h e numbered =
     let one : IsFamiliar (node_at p) root = record { node = root_found p; path = tt; rooted = (has_form p h).root; clauses = tt; undecorated = refl; stands = tt; parents = tt; ecmascript = subst (λ k. is_ecmascript_kind k ≡ true) (sym (has_form p h).root) refl } in
     each_of_node (FamiliarAt (node_at p)) root (steps_below root None 0 n p.root.children) one
     (familiar_steps (node_at p) root None 0 n p.root.children one (all_found p numbered) tt (and_second (not (is_typescript p.source_type)) (is_ecmascript_forest p.root.children) e) (tree_stands_well p h) (tree_lists p h)) tt
+
+pub familiar_at : (p : Tree) → first_fault p ≡ None → is_ecmascript p ≡ true → IsNumbered p.root → (q : Place) → Among (entering q) (steps p) → IsFamiliar (node_at p) q
+familiar_at p h e numbered q a = each_at (FamiliarAt (node_at p)) (steps p) (entering q) (familiar_program p h e numbered) a

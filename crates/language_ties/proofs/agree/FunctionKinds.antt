@@ -1,13 +1,11 @@
 -- Functions make environments of four kinds, of which an `if` body's binds no plain name, and arrows of two.
 use Rattle.std.proofs.Common.{◌≡◌, true, false, inl, inr, ◌⊎◌, refl}
 use Rattle.semantic_kinds.specs.declared.kind.AstType.TheVariants as kind
+use Rattle.binding_laws.proofs.SmallLaws.{never}
 use Rattle.language_ties.specs.Environments.{same_environment_kind}
 use Rattle.language_ties.specs.declared.environment_kind.EnvironmentKind.{EnvironmentKind}
 use Rattle.language_ties.specs.declared.environment_kind.EnvironmentKind.TheVariants as environment
 use Rattle.language_ties.proofs.agree.MadeEnvironments.{may_make}
-
-never : true ≡ false → ⊥
-never h = absurd cc
 
 pub function_kinds : (e : EnvironmentKind) → may_make kind.Function e ≡ true → same_environment_kind e environment.IfBody ≡ false → (e ≡ environment.Body) ⊎ ((e ≡ environment.Parameters) ⊎ (e ≡ environment.OwnName))
 function_kinds environment.Body h u = inl refl

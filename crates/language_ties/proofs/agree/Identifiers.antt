@@ -7,6 +7,7 @@ use Rattle.semantic_syntax.proofs.Truth.{and_first, and_second, and_false}
 use Rattle.semantic_syntax.specs.Tables.{Name}
 use Rattle.semantic_model.specs.Entries.{Among}
 use Rattle.semantic_model.proofs.once.ListedUnder.{name_tells}
+use Rattle.binding_laws.proofs.SmallLaws.{either}
 use Rattle.language_ties.specs.Bound.{Bound, is_bound_as}
 use Rattle.language_ties.specs.Environments.{Environment, same_environment_kind, same_environment, is_made_for}
 use Rattle.language_ties.specs.Meaning.{bound, is_bound_in, identifiers_in, binds_arguments, bound_or, meaning_past_objects as meaning}
@@ -59,10 +60,6 @@ moved_also ws b d = go (is_bound_as way.Function b)
     go : (t : Bool) → Among d (cond t (record b { also = unless_barred ws b b.also }) b).also → Among d b.also
     go true a = unless b.also a
     go false a = a
-
-either : (a b : Bool) → (a || b) ≡ true → (a ≡ true) ⊎ (b ≡ true)
-either true b h = inl refl
-either false b h = inr h
 
 any_among : (ds : List Environment) (e : Environment) → list_any (λ d. same_environment d e) ds ≡ true → Among e ds
 any_among [] e h = absurd cc

@@ -11,6 +11,8 @@ use Rattle.semantic_model.specs.Analysis.{analysis_of, symbol_at}
 use Rattle.semantic_model.specs.Entries.{Among}
 use Rattle.semantic_model.specs.Place as place
 use Rattle.semantic_model.specs.Step.{entering, steps}
+use Rattle.binding_laws.proofs.ListLaws.{each_at}
+use Rattle.binding_laws.proofs.SmallLaws.{some_is, never}
 use Rattle.language_ties.specs.AgreeingNames.{has_none, is_declared_plainly, leaves_block, IsAlone, IsPlainName}
 use Rattle.language_ties.specs.Bound.{Bound, is_bound_as, written}
 use Rattle.language_ties.specs.EcmaScript.{is_ecmascript}
@@ -28,16 +30,7 @@ use Rattle.language_ties.proofs.clear.PassedScopes.{taking_takes}
 use Rattle.language_ties.proofs.moved.LeavingFunctions.{LeavesAt, IsLeft}
 use Rattle.language_ties.proofs.moved.OnWays.{IsLeftSomewhere, left_somewhere, placed_as_left}
 use Rattle.language_ties.proofs.moved.Settled.{settled, settled_bounds, settled_name, settled_identifier, settled_sort, settled_stays, settled_leaves, settled_last, settled_among, leaves_function, only_function, plain_stays, IsSettled, is_settled}
-use Rattle.language_ties.proofs.symbols.OneSymbol.{each_at, DeclarationOf, StaysThere, declared_there, declaration_of, share_symbol}
-
-pub some_is : {A : Type 0} (x y : A) → Some x ≡ Some y → x ≡ y
-some_is x y h = cc
-
-never : {A : Type 0} (x : A) → None ≡ Some x → ⊥
-never x h = absurd cc
-
-never_both : true ≡ false → ⊥
-never_both h = absurd cc
+use Rattle.language_ties.proofs.symbols.OneSymbol.{DeclarationOf, StaysThere, declared_there, declaration_of, share_symbol}
 
 -- an environment that takes variables is no class's
 pub taking_no_class : (d : Environment) → takes_variables d ≡ true → is_made_for environment.Class d ≡ false
@@ -154,7 +147,7 @@ module _ (p : Tree) (h : first_fault p ≡ None) (e : is_ecmascript p ≡ true) 
   no_clause b k apart y f c =
       let same : k.placed.maker ≡ y = some_is k.placed.maker y (sym k.placed.found ∙ f) in
       let makes : may_make kind.CatchClause b.environment.kind ≡ true = subst (λ i. may_make i b.environment.kind ≡ true) (ap (λ z. z.kind) same ∙ c) k.placed.makes in
-      never_both (sym makes ∙ apart)
+      never (sym makes ∙ apart)
 
   -- nor goes it to another
   pub bodiless : (b : Bound) (k : KnownBound b) → is_made_for environment.Catch b.environment ≡ false → k.declares.declaration.route.target.body ≡ None

@@ -19,6 +19,8 @@ use Rattle.semantic_model.specs.Place.{Place}
 use Rattle.semantic_model.specs.Step.{Step, entering, opening, header_ending, closing, leaving, steps}
 use Rattle.semantic_model.proofs.lists.Members.{among_cases}
 use Rattle.program_laws.proofs.DeclaredNodes.{among_map, among_flat}
+use Rattle.binding_laws.proofs.ListLaws.{each_at}
+use Rattle.binding_laws.proofs.SmallLaws.{never}
 use Rattle.language_ties.specs.AgreeingNames.{has_none, is_declared_plainly}
 use Rattle.language_ties.specs.Bound as language
 use Rattle.language_ties.specs.Bound.{Bound, bound_identifier, bound_here, bound_outward, bound_by_declarator, bound_by_declaration, bound_by_function, bound_by_class, bound_by_catch, bound_by_node, is_bound_as, written}
@@ -32,7 +34,6 @@ use Rattle.language_ties.proofs.agree.FamiliarPlaces.{IsFamiliar, FamiliarAt, Al
 use Rattle.language_ties.proofs.agree.KnownNodes.{node_at}
 use Rattle.language_ties.proofs.agree.MadeEnvironments.{IsMadeBy, made_in, may_make, EndsAtProgram, innermost_among, variable_among, IsUsual, innermost_usual, taking_usual}
 use Rattle.language_ties.proofs.block_functions.StayingFunctions.{innermost_unnamed}
-use Rattle.language_ties.proofs.symbols.OneSymbol.{each_at}
 
 -- the place of what is bound
 pub record IsBoundAt (s : SourceType) (ss : List Step) (b : Bound) : Type 0 where
@@ -78,9 +79,6 @@ module _ (b : Bound) (h : is_declared_plainly b ≡ true) where
 
 never_empty : (e : Environment) (es : List Environment) → [] ≡ e ∷ es → ⊥
 never_empty e es q = absurd cc
-
-never_both : true ≡ false → ⊥
-never_both q = absurd cc
 
 -- ---- the environment
 
@@ -164,7 +162,7 @@ module _ (s : SourceType) (x y : Node) (path : List Node) (rooted : EndsAtProgra
           statement b h (language.is_block_function s x (y ∷ path)) refl n (sym q)
       go false c =
           let (n, d, q) = among_map (bound_identifier bound.OwnName (record { kind = environment.OwnName; maker = x.node_id }) [] []) (names_at role.Id x) b c in
-          absurd (never_both (ap (is_bound_as bound.OwnName) q ∙ o))
+          absurd (never (ap (is_bound_as bound.OwnName) q ∙ o))
 
   classes : (b : Bound) → x.kind ≡ kind.Class → is_bound_as bound.OwnName b ≡ false → Among b (bound_by_class x (y ∷ path)) → Stands s x (y ∷ path) b
   classes b e o a = go (is_statement x) a
@@ -175,7 +173,7 @@ module _ (s : SourceType) (x y : Node) (path : List Node) (rooted : EndsAtProgra
           here kind.Class b e refl (sym (ap (λ i. i.environment) q))
       go false c =
           let (n, d, q) = among_map (bound_identifier bound.OwnName (record { kind = environment.Class; maker = x.node_id }) [] []) (names_at role.Id x) b c in
-          absurd (never_both (ap (is_bound_as bound.OwnName) q ∙ o))
+          absurd (never (ap (is_bound_as bound.OwnName) q ∙ o))
 
   catches : (patterns : List Node) (b : Bound) → x.kind ≡ kind.CatchParameter → Among b (flat_map (bound_by_catch es) patterns) → Stands s x (y ∷ path) b
   catches patterns b e a =

@@ -17,7 +17,9 @@ use Rattle.semantic_model.specs.Hoist.{run}
 use Rattle.semantic_model.specs.Place.{Place, OpenScope}
 use Rattle.semantic_model.specs.Step.{entering, steps}
 use Rattle.semantic_model.proofs.fold.Orders.{table_of}
+use Rattle.binding_laws.proofs.ListLaws.{each_at}
 use Rattle.binding_laws.proofs.ScopeOpeners.{openers, IsOpened}
+use Rattle.binding_laws.proofs.SmallLaws.{never, some_is}
 use Rattle.language_ties.specs.AgreeingNames.{IsPlainName}
 use Rattle.language_ties.specs.Bound.{Bound, is_bound_as}
 use Rattle.language_ties.specs.EcmaScript.{is_ecmascript}
@@ -32,7 +34,7 @@ use Rattle.language_ties.proofs.agree.ClassBounds.{IsClassBound, class_bound}
 use Rattle.language_ties.proofs.agree.FamiliarPlaces.{IsFamiliar, FamiliarAt, familiar_program}
 use Rattle.language_ties.proofs.agree.FunctionKinds.{function_kinds, arrow_kinds, IsOrdinary}
 use Rattle.language_ties.proofs.agree.Identifiers.{IsBoundHere, bound_here, identifier_here, meaning_further, meaning_here}
-use Rattle.language_ties.proofs.agree.KnownBounds.{some_is, KnownBound}
+use Rattle.language_ties.proofs.agree.KnownBounds.{KnownBound}
 use Rattle.language_ties.proofs.agree.KnownNodes.{node_at}
 use Rattle.language_ties.proofs.agree.MadeEnvironments.{may_make, environment_kind_is}
 use Rattle.language_ties.proofs.agree.PlaceAgreement.{AllAre, Matches}
@@ -41,10 +43,6 @@ use Rattle.language_ties.proofs.moved.Settled.{settled_bounds, bound_as_settled}
 use Rattle.language_ties.proofs.own_names.AnyBounds.{AnyBound, any_bound, IsMade, is_made, own_kind}
 use Rattle.language_ties.proofs.own_names.OwnBounds.{own_maker}
 use Rattle.language_ties.proofs.own_names.OwnSymbols.{HasSymbol, function_symbol}
-use Rattle.language_ties.proofs.symbols.OneSymbol.{each_at}
-
-never : true ≡ false → ⊥
-never h = absurd cc
 
 module _ (p : Tree) (h : first_fault p ≡ None) (e : is_ecmascript p ≡ true) (numbered : IsNumbered p.root) (x : Name) (not_arguments : bytes_eq x (codes "arguments") ≡ false) (clear : AllKeepClear x (declarations (events (steps p)))) (plain : IsPlainName p x) where
   abbrev es : List Event

@@ -11,6 +11,7 @@ use Rattle.semantic_tree.specs.declared.node.Node.{Node}
 use Rattle.semantic_model.specs.Binder.{is_block_function, is_clause, is_special, is_statement, is_var}
 use Rattle.semantic_model.specs.Place as place
 use Rattle.semantic_model.specs.Place.{Place, is_strict}
+use Rattle.binding_laws.proofs.SmallLaws.{never}
 use Rattle.language_ties.specs.Bound as language
 use Rattle.language_ties.specs.Environments.{Environment, is_made_for, has_parameter_expressions, is_outside_body, is_body_of_with, made_by, environments, innermost, takes_variables}
 use Rattle.language_ties.specs.Scopes.{maker_of_scope, maker_of_environment}
@@ -19,9 +20,6 @@ use Rattle.language_ties.specs.declared.environment_kind.EnvironmentKind.TheVari
 use Rattle.language_ties.proofs.EnvironmentsRound.{IsKnown}
 use Rattle.language_ties.proofs.Innermost.{innermost_made}
 use Rattle.language_ties.proofs.block_functions.StrictPlaces.{Strict}
-
-never : true ≡ false → ⊥
-never h = absurd cc
 
 -- ---- the environment
 

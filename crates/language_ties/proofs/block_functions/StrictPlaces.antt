@@ -2,7 +2,7 @@
 use Rattle.std.proofs.Common.{◌≡◌, ℕ, ◌==◌, List, [], ◌∷◌, Option, Some, None, Bool, true, false, ◌&&◌, ◌||◌, not, cond, inl, inr, ◌⊎◌, refl, sym, ap, subst, ◌∙◌, bytes_eq, codes}
 use Rattle.std.proofs.lemmas.Bool.{cases_Bool, not-true}
 use Rattle.std.proofs.lemmas.Nat.{and_or_self}
-use Rattle.semantic_syntax.proofs.Truth.{and_first, and_second, and_false, or_true}
+use Rattle.semantic_syntax.proofs.Truth.{and_first, and_second, or_true}
 use Rattle.semantic_kinds.specs.Classes.{holds_kind}
 use Rattle.semantic_kinds.specs.Kinds.{same_kind}
 use Rattle.semantic_kinds.specs.Roles.{same_role}
@@ -30,13 +30,12 @@ use Rattle.semantic_model.proofs.form.Shape.{has_form}
 use Rattle.semantic_model.proofs.steps.EachStep.{each_of_node, each_of_turn}
 use Rattle.semantic_model.proofs.steps.Turn.{Turn, turn_at}
 use Rattle.semantic_model.proofs.steps.TurnCases.{opening_case, ending_case, last_case}
+use Rattle.binding_laws.proofs.ChildChains.{no_decorator}
+use Rattle.binding_laws.proofs.SmallLaws.{never}
 use Rattle.language_ties.specs.Bound as language
 use Rattle.language_ties.specs.Bound.{makes_strict}
 use Rattle.language_ties.specs.EcmaScript.{is_ecmascript_kind, is_ecmascript_forest, is_ecmascript}
 use Rattle.language_ties.proofs.shared.PlainNodes.{forests_plain}
-
-never : true ≡ false → ⊥
-never h = absurd cc
 
 -- ---- flags
 
@@ -189,7 +188,7 @@ module _ (s : SourceType) where
 
   child_strict : (q : Place) (r : Role) (own : Option OpenScope) (cursor : ℕ) (node : Node) → Strict q → same_role r role.Decorators ≡ false → (is_inside q.node.kind r ≡ true → own ≡ None → ⊥) → OwnStrict q own → Strict (child_place q own cursor r node)
   child_strict q r own cursor node k d reached o = λ h.
-      let none_decorates : is_parameter_decorator q.node.kind r ≡ false = ap (λ b. holds_kind (kind.FormalParameter ∷ kind.FormalParameterRest ∷ []) q.node.kind && b) d ∙ and_false (holds_kind (kind.FormalParameter ∷ kind.FormalParameterRest ∷ []) q.node.kind) in
+      let none_decorates : is_parameter_decorator q.node.kind r ≡ false = no_decorator q.node.kind r d in
       inl (subst (λ b. is_strict (cond b (outside q.chain) (child_scopes q r own)) ≡ true) (sym none_decorates) (within_strict q r own k d reached o h))
 
   undecorated : (k : AstType) (r : Role) (rest more : Bool) → ((is_ecmascript_kind k && not (same_role r role.Decorators)) && rest && more) ≡ true → same_role r role.Decorators ≡ false

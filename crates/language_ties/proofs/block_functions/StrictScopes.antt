@@ -1,8 +1,7 @@
 -- Code that is strict by the scope where it stands is strict by the nodes round it.
 use Rattle.std.proofs.Common.{◌≡◌, ℕ, List, [], ◌∷◌, Option, Some, None, Bool, true, false, ◌&&◌, ◌||◌, not, cond, inl, inr, ◌⊎◌, refl, sym, ap, subst, ◌∙◌, bytes_eq, codes}
 use Rattle.std.proofs.lemmas.Bool.{not-true}
-use Rattle.semantic_syntax.proofs.Truth.{and_first, and_second, and_false, or_true}
-use Rattle.semantic_kinds.specs.Classes.{holds_kind}
+use Rattle.semantic_syntax.proofs.Truth.{and_first, and_second, or_true}
 use Rattle.semantic_kinds.specs.Roles.{same_role}
 use Rattle.semantic_kinds.specs.declared.kind.AstType.{AstType}
 use Rattle.semantic_kinds.specs.declared.kind.AstType.TheVariants as kind
@@ -27,15 +26,14 @@ use Rattle.semantic_model.proofs.form.Shape.{has_form}
 use Rattle.semantic_model.proofs.steps.EachStep.{each_of_node, each_of_turn}
 use Rattle.semantic_model.proofs.steps.Turn.{Turn, turn_at}
 use Rattle.semantic_model.proofs.steps.TurnCases.{opening_case, ending_case, last_case}
+use Rattle.binding_laws.proofs.ChildChains.{no_decorator}
+use Rattle.binding_laws.proofs.SmallLaws.{never}
 use Rattle.language_ties.specs.Bound as language
 use Rattle.language_ties.specs.Bound.{makes_strict}
 use Rattle.language_ties.specs.EcmaScript.{is_ecmascript_kind, is_ecmascript_forest, is_ecmascript}
 use Rattle.language_ties.specs.StrictCode.{IsStrictAlike, StrictnessAgrees}
 use Rattle.language_ties.proofs.block_functions.StrictPlaces.{made_strict, IsStrictFlag, StrictAt, strict_program}
 use Rattle.language_ties.proofs.shared.PlainNodes.{forests_plain}
-
-never : true ≡ false → ⊥
-never h = absurd cc
 
 -- ---- flags
 
@@ -156,7 +154,7 @@ module _ (s : SourceType) where
       let forests : (is_ecmascript_forest below ≡ true) × (is_ecmascript_forest after ≡ true) = forests_plain _ below after e in
       let here : (is_ecmascript_kind k2 ≡ true) × (same_role r role.Decorators ≡ false) = both_here k2 r _ _ e in
       let scope_told : OwnTold q turn.scope = own_told q r own n t o in
-      let none_decorates : is_parameter_decorator q.node.kind r ≡ false = ap (λ b. holds_kind (kind.FormalParameter ∷ kind.FormalParameterRest ∷ []) q.node.kind && b) here.1 ∙ and_false (holds_kind (kind.FormalParameter ∷ kind.FormalParameterRest ∷ []) q.node.kind) in
+      let none_decorates : is_parameter_decorator q.node.kind r ≡ false = no_decorator q.node.kind r here.1 in
       let child : Told turn.child = record {
         strict = λ h. within_told q r turn.scope t scope_told (subst (λ b. is_strict (cond b (outside q.chain) (child_scopes q r turn.scope)) ≡ true) none_decorates h);
         source = t.source;

@@ -24,13 +24,12 @@ use Rattle.semantic_model.proofs.lists.Members.{among_left, among_right}
 use Rattle.semantic_model.proofs.steps.EachStep.{each_of_node, each_of_turn}
 use Rattle.semantic_model.proofs.steps.Turn.{Turn, turn_at}
 use Rattle.semantic_model.proofs.steps.TurnCases.{opening_case, ending_case, last_case}
+use Rattle.binding_laws.proofs.EnteredOnce.{entered_place}
+use Rattle.binding_laws.proofs.ListLaws.{each_at}
 use Rattle.binding_laws.proofs.ScopeOpeners.{openers, IsOpened, one_scope}
+use Rattle.binding_laws.proofs.SmallLaws.{some_is}
 use Rattle.language_ties.proofs.own_names.OpenedNodes.{Opens, scope_opens, scope_stands}
 use Rattle.language_ties.proofs.caught.ClausePlaces.{IsClauseBody, body_kind}
-use Rattle.language_ties.proofs.symbols.OneSymbol.{each_at}
-
-some_is : {A : Type 0} (x y : A) → Some x ≡ Some y → x ≡ y
-some_is x y h = cc
 
 -- ---- what opens a scope is entered
 
@@ -91,9 +90,6 @@ is_taken c (entering q ∷ ss) h = taken_more c (entering q) ss (is_taken c ss h
 is_taken c (header_ending q s ∷ ss) h = taken_more c (header_ending q s) ss (is_taken c ss h)
 is_taken c (closing q s ∷ ss) h = taken_more c (closing q s) ss (is_taken c ss h)
 is_taken c (leaving q ∷ ss) h = taken_more c (leaving q) ss (is_taken c ss h)
-
-entered_place : (q r : Place) → entering q ≡ entering r → q ≡ r
-entered_place q r e = cc
 
 -- behind each place whose innermost scope has a body
 taken_behind : (ss : List Step) → AllFollowed ss → (q : Place) → Among (entering q) ss → (b : ℕ) → (innermost q.chain).body ≡ Some b → IsTaken (innermost q.chain).number ss

@@ -15,12 +15,10 @@ use Rattle.semantic_kinds.specs.declared.kind.AstType.{AstType}
 use Rattle.semantic_kinds.specs.declared.kind.AstType.TheVariants as kind
 use Rattle.semantic_kinds.specs.declared.part.Part.{Part}
 use Rattle.semantic_kinds.specs.declared.role.Role.{Role}
-use Rattle.semantic_kinds.specs.declared.role.Role.TheVariants as role
 use Rattle.semantic_tree.specs.Faults.{first_fault}
 use Rattle.semantic_tree.specs.Forest.{Forest, nothing, tree}
 use Rattle.semantic_tree.specs.Nodes.{trees, nodes_in}
 use Rattle.semantic_tree.specs.Tree.{Tree, IsNumbered}
-use Rattle.semantic_tree.specs.Views.{is}
 use Rattle.semantic_tree.specs.declared.node.Node.{Node}
 use Rattle.semantic_model.specs.Cursor.{on_entering}
 use Rattle.semantic_model.specs.EachStep.{EachStep}
@@ -39,15 +37,10 @@ use Rattle.walk_model.proofs.headers.Headed.{bound_inside}
 use Rattle.walk_model.proofs.headers.NoStatements.{is_loose, is_statement_text, is_closed, is_bound, asks_closed, closed_by_table, closed_by_place, table_closes, place_closes, child_closed}
 use Rattle.walk_model.proofs.places.Shapes.{holds_below, tree_holds, only_is}
 use Rattle.binding_laws.proofs.ChildChains.{ChainOf, outer_chain, inner_chain, OwnOf, own_of, no_decorator, chain_of}
+use Rattle.binding_laws.proofs.SmallLaws.{never, some_is}
 use Rattle.language_ties.specs.EcmaScript.{is_ecmascript}
 use Rattle.language_ties.proofs.agree.FamiliarPlaces.{IsFamiliar, FamiliarAt, familiar_program}
 use Rattle.language_ties.proofs.agree.KnownNodes.{node_at}
-
-never : true ≡ false → ⊥
-never h = absurd cc
-
-some_is : {A : Type 0} (x y : A) → Some x ≡ Some y → x ≡ y
-some_is x y h = cc
 
 -- ---- the shape
 

@@ -19,7 +19,9 @@ use Rattle.semantic_model.proofs.fold.BodyChains.{InTable, AllInTable, IsStepIn}
 use Rattle.semantic_model.proofs.fold.Orders.{table_of, steps_in}
 use Rattle.semantic_model.proofs.form.Shape.{has_form}
 use Rattle.binding_laws.proofs.EnteredOnce.{entered_once}
+use Rattle.binding_laws.proofs.ListLaws.{each_at}
 use Rattle.binding_laws.proofs.ScopeOpeners.{openers, IsOpened, AllOpened, IsPlaceOpened, places_opened, one_scope}
+use Rattle.binding_laws.proofs.SmallLaws.{some_is, never}
 use Rattle.language_ties.specs.AgreeingNames.{IsPlainName}
 use Rattle.language_ties.specs.Bound.{Bound}
 use Rattle.language_ties.specs.EcmaScript.{is_ecmascript}
@@ -28,10 +30,6 @@ use Rattle.language_ties.proofs.agree.KnownNodes.{node_at}
 use Rattle.language_ties.proofs.caught.BodyPlaces.{IsBodyPlace, body_place, block_takes}
 use Rattle.language_ties.proofs.caught.ClausePlaces.{IsClauseBody, ClausalAt, clausal_program}
 use Rattle.language_ties.proofs.own_names.AnyBounds.{AnyBound, IsDeclared, is_declared, declared_known, declared_own}
-use Rattle.language_ties.proofs.symbols.OneSymbol.{each_at}
-
-some_is : {A : Type 0} (x y : A) → Some x ≡ Some y → x ≡ y
-some_is x y h = cc
 
 none_is : (n : ℕ) → None ≡ Some n → ⊥
 none_is n h = absurd cc
@@ -110,9 +108,6 @@ not_taken p numbered q a n s o opener b t =
     let node : t.place.node.node_id ≡ q.node.node_id = some_is t.place.node.node_id q.node.node_id (sym t.opened ∙ o ∙ ap Some opener) in
     let same : t.place ≡ q = entered_once p numbered t.place q t.entered a node in
     never (sym t.is_body ∙ ap is_catch_body same ∙ n)
-  where
-    never : true ≡ false → ⊥
-    never w = absurd cc
 
 -- ---- the block of a clause
 

@@ -1,5 +1,5 @@
 -- Plain catch names are bound by the parameters of catch clauses alone, in the clause's environment.
-use Rattle.std.proofs.Common.{◌≡◌, ℕ, List, [], ◌∷◌, Bool, true, false, cond, map, flat_map, refl, sym, ap, subst, ◌∙◌, codes}
+use Rattle.std.proofs.Common.{◌≡◌, List, [], ◌∷◌, Bool, true, false, cond, map, refl, sym, ap, ◌∙◌, codes}
 use Rattle.semantic_kinds.specs.declared.kind.AstType.{AstType}
 use Rattle.semantic_kinds.specs.declared.kind.AstType.TheVariants as kind
 use Rattle.semantic_kinds.specs.declared.role.Role.TheVariants as role
@@ -10,14 +10,11 @@ use Rattle.semantic_model.specs.Binder.{is_statement}
 use Rattle.semantic_model.specs.Entries.{Among}
 use Rattle.semantic_model.specs.Names.{bound_names, names_at}
 use Rattle.program_laws.proofs.DeclaredNodes.{among_map, among_flat}
+use Rattle.binding_laws.proofs.SmallLaws.{never}
 use Rattle.language_ties.specs.Bound.{Bound, bound_identifier, bound_here, bound_outward, bound_by_declarator, bound_by_declaration, bound_by_function, bound_by_class, bound_by_catch, bound_by_node, is_block_function, is_bound_as}
 use Rattle.language_ties.specs.Environments.{Environment, environments, innermost, passed, variable_environment}
-use Rattle.language_ties.specs.declared.bound_as.BoundAs.{BoundAs}
 use Rattle.language_ties.specs.declared.bound_as.BoundAs.TheVariants as bound
 use Rattle.language_ties.specs.declared.environment_kind.EnvironmentKind.TheVariants as environment
-
-never : true ≡ false → ⊥
-never h = absurd cc
 
 module _ (s : SourceType) (x : Node) (path : List Node) (b : Bound) where
   abbrev es : List Environment

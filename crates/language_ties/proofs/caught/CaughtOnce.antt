@@ -32,6 +32,8 @@ use Rattle.walk_model.proofs.headers.NoStatements.{is_loose, is_statement_text}
 use Rattle.walk_model.proofs.once.NamesInRole.{AtMostOne, one_pattern}
 use Rattle.program_laws.proofs.DeclaredNodes.{among_map, among_flat}
 use Rattle.binding_laws.proofs.EnteredOnce.{entered_once}
+use Rattle.binding_laws.proofs.ListLaws.{each_at, same_of_one}
+use Rattle.binding_laws.proofs.SmallLaws.{never, some_is}
 use Rattle.language_ties.specs.Bound.{Bound, bound_identifier, bound_here, bound_outward, bound_by_declarator, bound_by_declaration, bound_by_function, bound_by_class, bound_by_catch, bound_by_node, is_block_function, is_bound_as, written}
 use Rattle.language_ties.specs.EcmaScript.{is_ecmascript}
 use Rattle.language_ties.specs.Environments.{Environment, made_by, environments, innermost, passed, takes_variables, variable_environment}
@@ -40,7 +42,7 @@ use Rattle.language_ties.specs.declared.bound_as.BoundAs.TheVariants as bound
 use Rattle.language_ties.specs.declared.environment_kind.EnvironmentKind.{EnvironmentKind}
 use Rattle.language_ties.specs.declared.environment_kind.EnvironmentKind.TheVariants as environment
 use Rattle.language_ties.proofs.EnvironmentsRound.{IsKnown, KnownAt, known_program}
-use Rattle.language_ties.proofs.agree.FamiliarPlaces.{IsFamiliar, FamiliarAt, familiar_program, known_among}
+use Rattle.language_ties.proofs.agree.FamiliarPlaces.{IsFamiliar, known_among, familiar_at}
 use Rattle.language_ties.proofs.agree.KnownNodes.{node_at}
 use Rattle.language_ties.proofs.agree.MadeEnvironments.{environment_kind_is, may_make, IsMadeBy, made_in, EndsAtProgram, innermost_among, variable_among}
 use Rattle.language_ties.proofs.agree.PlainBounds.{IsBoundAt, bound_at_place}
@@ -51,22 +53,8 @@ use Rattle.language_ties.proofs.caught.InClauses.{IsInClause, in_clause}
 use Rattle.language_ties.proofs.clear.PassedScopes.{variables_taken}
 use Rattle.language_ties.proofs.clear.ParameterPlaces.{parameter_takes}
 use Rattle.language_ties.proofs.own_names.OwnIds.{is_at_most, none_of_parts, later_parts, fit_at}
-use Rattle.language_ties.proofs.symbols.OneSymbol.{each_at}
-
-never : true ≡ false → ⊥
-never h = absurd cc
-
-some_is : {A : Type 0} (x y : A) → Some x ≡ Some y → x ≡ y
-some_is x y h = cc
 
 -- ---- one parameter, and one pattern
-
-same_of_one : (ns : List Node) (n m : Node) → AtMostOne ns → Among n ns → Among m ns → n ≡ m
-same_of_one [] n m o a b = absurd a
-same_of_one (y ∷ []) n m o (inl i) (inl j) = sym i ∙ j
-same_of_one (y ∷ []) n m o (inl i) (inr b) = absurd b
-same_of_one (y ∷ []) n m o (inr a) b = absurd a
-same_of_one (y ∷ z ∷ ns) n m o a b = absurd o
 
 one_first : (r : Role) (own rest : List (Role × Node)) → nat_le (length own) 1 ≡ true → nodes_in r rest ≡ [] → AtMostOne (nodes_in r (own ++ rest))
 one_first r [] rest l e = subst AtMostOne (sym e) tt
@@ -105,9 +93,6 @@ opener_is [] m ms h = absurd cc
 opener_is (s ∷ ss) m ms h = let w : maker_of_scope s ≡ m = cc in ap (λ z. z.node) w
 
 module _ (p : Tree) (h : first_fault p ≡ None) (e : is_ecmascript p ≡ true) (numbered : IsNumbered p.root) (name : Name) where
-  familiar_at : (q : Place) → Among (entering q) (steps p) → IsFamiliar (node_at p) q
-  familiar_at q a = each_at (FamiliarAt (node_at p)) (steps p) (entering q) (familiar_program p h e numbered) a
-
   quiet_at : (q : Place) → Among (entering q) (steps p) → IsQuietPlace (node_at p) q
   quiet_at q a = each_at (QuietAt (node_at p)) (steps p) (entering q) (quiet_program p h e numbered) a
 
@@ -122,7 +107,7 @@ module _ (p : Tree) (h : first_fault p ≡ None) (e : is_ecmascript p ≡ true) 
     made : Among c.environment es → c.environment ≡ Clause
     made a =
         let m : IsMadeBy (r.node ∷ r.path) c.environment = made_in r.node r.path c.environment a in
-        let familiar : IsFamiliar (node_at p) r = familiar_at r entered in
+        let familiar : IsFamiliar (node_at p) r = familiar_at p h e numbered r entered in
         let same : m.maker ≡ clause = some_is m.maker clause (sym (known_among (node_at p) (r.node ∷ r.path) m.maker (familiar.node, familiar.path) m.among) ∙ ap (node_at p) (sym m.is ∙ maker) ∙ found) in
         let kinds : c.environment.kind ≡ environment.Catch = environment_kind_is c.environment.kind environment.Catch (subst (λ k. may_make k c.environment.kind ≡ true) (ap (λ z. z.kind) same ∙ caught) m.makes) in
         λ i. record { kind = kinds i; maker = maker i }
@@ -142,12 +127,12 @@ module _ (p : Tree) (h : first_fault p ≡ None) (e : is_ecmascript p ≡ true) 
     -- what it binds in the innermost
     inner_there : (y : Node) (l : List Node) → r.path ≡ y ∷ l → c.environment ≡ innermost es → innermost es ≡ Clause
     inner_there y l w i =
-        let rooted : EndsAtProgram y l = subst (EndsAtProgram r.node) w (familiar_at r entered).rooted in
+        let rooted : EndsAtProgram y l = subst (EndsAtProgram r.node) w (familiar_at p h e numbered r entered).rooted in
         let there : Among (innermost es) es = subst (λ k. Among (innermost (environments r.node k)) (environments r.node k)) (sym w) (innermost_among r.node y l rooted) in
         sym i ∙ made (subst (λ d. Among d es) (sym i) there)
 
     at_root : r.path ≡ [] → r.node.kind ≡ kind.Program
-    at_root w = subst (EndsAtProgram r.node) w (familiar_at r entered).rooted
+    at_root w = subst (EndsAtProgram r.node) w (familiar_at p h e numbered r entered).rooted
 
     -- the root binds nothing
     not_root : (k : AstType) → same_kind k kind.Program ≡ false → r.node.kind ≡ k → r.path ≡ [] → ⊥
@@ -174,7 +159,7 @@ module _ (p : Tree) (h : first_fault p ≡ None) (e : is_ecmascript p ≡ true) 
     own_names k names a =
         let (n, i, j) = among_map (bound_identifier bound.OwnName (record { kind = k; maker = r.node.node_id }) [] []) names c a in
         let node : r.node.node_id ≡ clause.node_id = ap (λ z. z.environment.maker) j ∙ maker in
-        ap (λ z. z.kind) (some_is r.node clause (sym (familiar_at r entered).node ∙ ap (node_at p) node ∙ found)) ∙ caught
+        ap (λ z. z.kind) (some_is r.node clause (sym (familiar_at p h e numbered r entered).node ∙ ap (node_at p) node ∙ found)) ∙ caught
 
     -- ---- kind by kind
 
@@ -186,7 +171,7 @@ module _ (p : Tree) (h : first_fault p ≡ None) (e : is_ecmascript p ≡ true) 
     declarator w (y ∷ l) v a = go (is_with_text kind.VariableDeclaration (codes "var") y) a
       where
         rooted : EndsAtProgram y l
-        rooted = subst (EndsAtProgram r.node) v (familiar_at r entered).rooted
+        rooted = subst (EndsAtProgram r.node) v (familiar_at p h e numbered r entered).rooted
 
         go : (t : Bool) → Among c (map (cond t (bound_outward (environments r.node (y ∷ l))) (bound_here bound.Lexical (environments r.node (y ∷ l)))) (bound_names r.node)) → ⊥
         go true i =
@@ -239,7 +224,7 @@ module _ (p : Tree) (h : first_fault p ≡ None) (e : is_ecmascript p ≡ true) 
 
         go : (l : List Node) → r.path ≡ l → ⊥
         go [] v = not_root k n w v
-        go (y ∷ l) v = no_taker clause.node_id (innermost es) (inner_there y l v inner) (parameter_takes r.node r.path (ap is_parameter w ∙ i) (familiar_at r entered).parents (familiar_at r entered).rooted)
+        go (y ∷ l) v = no_taker clause.node_id (innermost es) (inner_there y l v inner) (parameter_takes r.node r.path (ap is_parameter w ∙ i) (familiar_at p h e numbered r entered).parents (familiar_at p h e numbered r entered).rooted)
 
     import_name : (k : AstType) → is_import_name k ≡ true → same_kind k kind.Program ≡ false → same_kind k kind.BlockStatement ≡ false → r.node.kind ≡ k → Among c (map (bound_here bound.Lexical es) (names_at role.Local r.node)) → ⊥
     import_name k i n b w a = never (sym i ∙ sym (ap is_import_name w) ∙ (inner_calm k n b w (inner_names (bound_here bound.Lexical es) (names_at role.Local r.node) (λ n. refl) a)).no_import_name)
@@ -329,7 +314,7 @@ module _ (p : Tree) (h : first_fault p ≡ None) (e : is_ecmascript p ≡ true) 
           one_place q b c i parameter b_binds c_binds plainly =
               let first : IsOfPattern q b = of_pattern q b b_binds in
               let second : IsOfPattern q c = of_pattern q c c_binds in
-              let once : AtMostOne (children_of role.Pattern q.node.children) = one_pattern (trees q.node.children) (subst (λ k. fit (parts k) (trees q.node.children) ≡ true) parameter (fit_at p h q.node.node_id q.node (familiar_at q i).node)) in
+              let once : AtMostOne (children_of role.Pattern q.node.children) = one_pattern (trees q.node.children) (subst (λ k. fit (parts k) (trees q.node.children) ≡ true) parameter (fit_at p h q.node.node_id q.node (familiar_at p h e numbered q i).node)) in
               let same : second.pattern ≡ first.pattern = same_of_one (children_of role.Pattern q.node.children) second.pattern first.pattern once second.among first.among in
               let plain : is kind.BindingIdentifier first.pattern ≡ true = first.plainly plainly in
               let of_b : first.pattern ≡ first.name_node = only_name first.pattern first.name_node plain first.named in

@@ -1,5 +1,5 @@
 -- The clause of a parameter, as a place.
-use Rattle.std.proofs.Common.{◌≡◌, ℕ, List, [], ◌∷◌, Some, None, true, refl, sym, ap, subst, ◌∙◌}
+use Rattle.std.proofs.Common.{◌≡◌, List, [], ◌∷◌, Some, None, true, refl, sym, ap, subst, ◌∙◌}
 use Rattle.semantic_kinds.specs.declared.kind.AstType.TheVariants as kind
 use Rattle.semantic_tree.specs.Faults.{first_fault}
 use Rattle.semantic_tree.specs.Tree.{Tree, IsNumbered}
@@ -7,17 +7,14 @@ use Rattle.semantic_tree.specs.declared.node.Node.{Node}
 use Rattle.semantic_model.specs.Entries.{Among}
 use Rattle.semantic_model.specs.Place.{Place}
 use Rattle.semantic_model.specs.Step.{entering, steps}
+use Rattle.binding_laws.proofs.ListLaws.{each_at}
 use Rattle.language_ties.specs.EcmaScript.{is_ecmascript}
-use Rattle.language_ties.proofs.agree.FamiliarPlaces.{IsFamiliar, FamiliarAt, familiar_program}
+use Rattle.language_ties.proofs.agree.FamiliarPlaces.{familiar_at}
 use Rattle.language_ties.proofs.agree.KnownNodes.{node_at}
 use Rattle.language_ties.proofs.caught.ClausePlaces.{UnderClause, IsClausal, ClausalAt, clausal_program}
-use Rattle.language_ties.proofs.symbols.OneSymbol.{each_at}
 use Rattle.language_ties.proofs.tangled.NamePlaces.{IsEnteredAs, AllEnteredAs, AmidAt, amid_program}
 
 module _ (p : Tree) (h : first_fault p ≡ None) (e : is_ecmascript p ≡ true) (numbered : IsNumbered p.root) where
-  familiar_at : (q : Place) → Among (entering q) (steps p) → IsFamiliar (node_at p) q
-  familiar_at q a = each_at (FamiliarAt (node_at p)) (steps p) (entering q) (familiar_program p h e numbered) a
-
   pub record IsInClause (q : Place) : Type 0 where
     pub clause : Place
     pub entered : Among (entering clause) (steps p)
@@ -36,4 +33,4 @@ module _ (p : Tree) (h : first_fault p ≡ None) (e : is_ecmascript p ≡ true) 
       go (y ∷ l) w b =
           let clause : y.kind ≡ kind.CatchClause = subst (UnderClause (node_at p)) w (clausal.parameter k) in
           let one : IsEnteredAs (steps p) y l = b.0 in
-          record { clause = one.place; entered = one.entered; known = (familiar_at one.place one.entered).node; under = w ∙ (λ i. sym one.node i ∷ sym one.above i); caught = ap (λ z. z.kind) one.node ∙ clause }
+          record { clause = one.place; entered = one.entered; known = (familiar_at p h e numbered one.place one.entered).node; under = w ∙ (λ i. sym one.node i ∷ sym one.above i); caught = ap (λ z. z.kind) one.node ∙ clause }

@@ -25,7 +25,9 @@ use Rattle.semantic_model.proofs.steps.Turn.{Turn, turn_at}
 use Rattle.semantic_model.proofs.steps.TurnCases.{opening_case, ending_case, last_case}
 use Rattle.binding_laws.proofs.ChildChains.{ChainOf, outer_chain, inner_chain, OwnOf, own_of, no_decorator, chain_of}
 use Rattle.binding_laws.proofs.EnteredOnce.{entered_once}
+use Rattle.binding_laws.proofs.ListLaws.{each_at}
 use Rattle.binding_laws.proofs.ScopeOpeners.{openers, IsOpened, AllOpened, IsPlaceOpened, places_opened, one_scope}
+use Rattle.binding_laws.proofs.SmallLaws.{some_is, never}
 use Rattle.language_ties.specs.AgreeingNames.{IsPlainName}
 use Rattle.language_ties.specs.Bound.{Bound}
 use Rattle.language_ties.specs.EcmaScript.{is_ecmascript}
@@ -34,13 +36,6 @@ use Rattle.language_ties.proofs.agree.KnownBounds.{KnownBound}
 use Rattle.language_ties.proofs.agree.KnownNodes.{node_at}
 use Rattle.language_ties.proofs.caught.CaughtBounds.{IsTakenBy, taken_by}
 use Rattle.language_ties.proofs.own_names.AnyBounds.{declared_known}
-use Rattle.language_ties.proofs.symbols.OneSymbol.{each_at}
-
-some_is : {A : Type 0} (x y : A) → Some x ≡ Some y → x ≡ y
-some_is x y h = cc
-
-never : true ≡ false → ⊥
-never h = absurd cc
 
 module _ (p : Tree) (numbered : IsNumbered p.root) (n : ℕ) (body : Place) (entered_body : Among (entering body) (steps p)) (opens_it : slice_get (openers (steps p)) n ≡ Some body.node.node_id) where
   -- round the scope of the body stand those of its place

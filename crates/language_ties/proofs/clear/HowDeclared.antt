@@ -22,6 +22,8 @@ use Rattle.semantic_model.proofs.fold.EachDeclared.{EachDeclared, each_on_enteri
 use Rattle.semantic_model.proofs.form.ParameterShape.{is_parameter}
 use Rattle.semantic_model.proofs.lists.Members.{among_left, among_right, among_cases}
 use Rattle.program_laws.proofs.DeclaredNodes.{among_map, among_flat}
+use Rattle.binding_laws.proofs.ListLaws.{each_declared}
+use Rattle.binding_laws.proofs.SmallLaws.{never}
 use Rattle.language_ties.specs.Bound as language
 use Rattle.language_ties.specs.Bound.{Bound, bound_identifier, bound_here, bound_outward, bound_by_declarator, bound_by_declaration, bound_by_function, bound_by_class, bound_by_catch, bound_by_node, bound_at, is_bound_as, written}
 use Rattle.language_ties.specs.EcmaScript.{is_ecmascript_kind}
@@ -34,10 +36,6 @@ use Rattle.language_ties.proofs.agree.Identifiers.{same_again}
 use Rattle.language_ties.proofs.agree.MadeEnvironments.{EndsAtProgram}
 use Rattle.language_ties.proofs.clear.ParameterPlaces.{parameter_takes}
 use Rattle.language_ties.proofs.clear.PassedScopes.{variables_taken}
-use Rattle.language_ties.proofs.symbols.OneSymbol.{declared_at}
-
-never : true ≡ false → ⊥
-never h = absurd cc
 
 -- ---- how a declaration is made
 
@@ -76,7 +74,7 @@ hoisted_kind q = each_on_entering (λ d. d.how ≡ hoisted → q.node.kind ≡ k
 
 pub hoisted_is : (q : Place) (d : Declaration) → Among d (declared_on_entering q) → d.how ≡ hoisted → IsVariable q d
 hoisted_is q d a h =
-    let k : q.node.kind ≡ kind.VariableDeclarator = declared_at (λ z. z.how ≡ hoisted → q.node.kind ≡ kind.VariableDeclarator) (declared_on_entering q) d (hoisted_kind q) a h in
+    let k : q.node.kind ≡ kind.VariableDeclarator = each_declared (λ z. z.how ≡ hoisted → q.node.kind ≡ kind.VariableDeclarator) (declared_on_entering q) d (hoisted_kind q) a h in
     variable_of q q.path refl d (subst (λ j. Among d (declared_by j q)) k a) h
 
 -- what it binds is a variable

@@ -21,10 +21,11 @@ use Rattle.semantic_model.specs.Names.{bound_names, bound_below, names_at}
 use Rattle.semantic_model.specs.Place as place
 use Rattle.semantic_model.specs.Place.{Place, OpenScope, parent_holds}
 use Rattle.semantic_model.specs.Step.{Step, entering, opening, header_ending, closing, leaving, steps}
-use Rattle.semantic_model.proofs.fold.EachDeclared.{EachDeclared, each_on_opening}
+use Rattle.semantic_model.proofs.fold.EachDeclared.{each_on_opening}
 use Rattle.semantic_model.proofs.form.Shape.{has_form}
 use Rattle.semantic_model.proofs.lists.Members.{among_left, among_right, among_cases}
 use Rattle.program_laws.proofs.DeclaredNodes.{among_map, among_flat}
+use Rattle.binding_laws.proofs.ListLaws.{each_declared}
 use Rattle.language_ties.specs.Bound as language
 use Rattle.language_ties.specs.Bound.{Bound, bound_identifier, bound_here, bound_outward, bound_by_declarator, bound_by_declaration, bound_by_catch, bound_by_node, written}
 use Rattle.language_ties.specs.ClearNames.{may_go_out, StaysInside}
@@ -158,14 +159,9 @@ module _ (s : SourceType) (p : Place) (x : Name) where
 
 -- ---- all steps
 
-each_of_list : (P : Declaration → Type 0) (ds : List Declaration) (d : Declaration) → EachDeclared P ds → Among d ds → P d
-each_of_list P [] d h a = absurd a
-each_of_list P (e ∷ ds) d h (inl q) = subst P q h.0
-each_of_list P (e ∷ ds) d h (inr a) = each_of_list P ds d h.1 a
-
 -- in a scope that opens all is plain
 opening_plain : (p : Place) (o : OpenScope) (d : Declaration) → Among d (declared_on_opening p o) → IsPlain d
-opening_plain p o d a = each_of_list IsPlain (declared_on_opening p o) d (each_on_opening IsPlain (λ how r. how ≡ plain) (λ node row is_pure name r. r) p.node.kind p o (λ q. refl)) a
+opening_plain p o d a = each_declared IsPlain (declared_on_opening p o) d (each_on_opening IsPlain (λ how r. how ≡ plain) (λ node row is_pure name r. r) p.node.kind p o (λ q. refl)) a
 
 module _ (p : Tree) (x : Name) (h : first_fault p ≡ None) (e : is_ecmascript p ≡ true) (inside : StaysInside p x) where
   abbrev ds : List Declaration

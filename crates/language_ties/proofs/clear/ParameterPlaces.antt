@@ -7,14 +7,12 @@ use Rattle.semantic_kinds.specs.declared.kind.AstType.TheVariants as kind
 use Rattle.semantic_tree.specs.declared.node.Node.{Node}
 use Rattle.semantic_model.proofs.form.Clauses.{kind_is}
 use Rattle.semantic_model.proofs.form.ParameterShape.{is_parameter}
+use Rattle.binding_laws.proofs.SmallLaws.{never}
 use Rattle.language_ties.specs.EcmaScript.{is_ecmascript_kind}
 use Rattle.language_ties.specs.Environments.{Environment, is_outside_body, has_parameter_expressions, made_by, environments, innermost, takes_variables}
 use Rattle.language_ties.specs.declared.environment_kind.EnvironmentKind.TheVariants as environment
 use Rattle.language_ties.proofs.agree.FamiliarPlaces.{is_function_kind, is_parent, ParentsFit}
 use Rattle.language_ties.proofs.agree.MadeEnvironments.{EndsAtProgram}
-
-never : true ≡ false → ⊥
-never h = absurd cc
 
 -- the parameters of a function are bound where its variables are
 pub parameter_takes : (node : Node) (path : List Node) → is_parameter node.kind ≡ true → ParentsFit node.kind path → EndsAtProgram node path → takes_variables (innermost (environments node path)) ≡ true

@@ -15,12 +15,15 @@ use Rattle.semantic_model.specs.Binder.{is_var, declared_on_entering}
 use Rattle.semantic_model.specs.Declaration.{Declaration, plain, hoisted, moved, caught, body_list, path, Meets, here, passed_before, route_from, outward_to}
 use Rattle.semantic_model.specs.Entries.{Among, times}
 use Rattle.semantic_model.specs.Event.{declarations, events}
-use Rattle.semantic_model.specs.Place.{Place, OpenScope}
+use Rattle.semantic_model.specs.Place.{Place}
 use Rattle.semantic_model.specs.Step.{entering, steps}
 use Rattle.semantic_model.proofs.lists.Members.{among_left}
 use Rattle.semantic_model.proofs.once.ListedUnder.{name_tells}
 use Rattle.walk_model.proofs.headers.NoStatements.{is_loose}
+use Rattle.binding_laws.proofs.ListLaws.{of_map, each_at, each_declared}
 use Rattle.binding_laws.proofs.ScopeOpeners.{openers, IsOpened, AllOpened, IsPlaceOpened, places_opened}
+use Rattle.binding_laws.proofs.ScopesRound.{among_round}
+use Rattle.binding_laws.proofs.SmallLaws.{never, some_is}
 use Rattle.language_ties.specs.AgreeingNames.{is_declared_plainly, IsPlainName}
 use Rattle.language_ties.specs.Bound.{Bound, bound_by_node, is_bound_as, written}
 use Rattle.language_ties.specs.contracts.bound_as.BoundAs.{the_type as the_ways}
@@ -37,8 +40,8 @@ use Rattle.language_ties.specs.declared.environment_kind.EnvironmentKind.{Enviro
 use Rattle.language_ties.specs.declared.environment_kind.EnvironmentKind.TheVariants as environment
 use Rattle.language_ties.proofs.EnvironmentsRound.{IsKnown, KnownAt, known_program}
 use Rattle.language_ties.proofs.UndeclaredNames.{each_identifier}
-use Rattle.language_ties.proofs.agree.FamiliarPlaces.{AllKnown, IsFamiliar, FamiliarAt, familiar_program, known_among}
-use Rattle.language_ties.proofs.agree.KnownBounds.{some_is, LeavesThere, KnownBound, bodiless}
+use Rattle.language_ties.proofs.agree.FamiliarPlaces.{AllKnown, IsFamiliar, known_among, familiar_at}
+use Rattle.language_ties.proofs.agree.KnownBounds.{LeavesThere, KnownBound, bodiless}
 use Rattle.language_ties.proofs.agree.KnownNodes.{node_at}
 use Rattle.language_ties.proofs.agree.MadeEnvironments.{environment_kind_is, may_make, IsMadeBy, made_in}
 use Rattle.language_ties.proofs.agree.PlainBounds.{by_one}
@@ -55,10 +58,7 @@ use Rattle.language_ties.proofs.moved.Settled.{settled, settled_bounds, settled_
 use Rattle.language_ties.proofs.own_names.AnyBounds.{AnyBound, any_bound, IsDeclared, is_declared, declared_known, declared_own, IsMade, is_made, own_kind}
 use Rattle.language_ties.proofs.own_names.OwnBounds.{IsOfExpression, OwnBound}
 use Rattle.language_ties.proofs.own_names.PassedClasses.{HoldsLoose, LooseAt, loose_program, passes_no_class}
-use Rattle.language_ties.proofs.symbols.OneSymbol.{of_map, each_at, declared_at, DeclarationOf, StaysThere}
-
-never : true ≡ false → ⊥
-never h = absurd cc
+use Rattle.language_ties.proofs.symbols.OneSymbol.{DeclarationOf, StaysThere}
 
 -- ---- kinds of environments with a scope, where no variables go
 
@@ -186,9 +186,6 @@ module _ (p : Tree) (h : first_fault p ≡ None) (e : is_ecmascript p ≡ true) 
       go b i m j (inl k) = inl (record { bind = b; among = i; named = m; known = k; same = same_declaration k.declares.declaration d ds k.declares.among a (k.declares.identifier ∙ j) (declared_once p (identifier_of k.declares.declaration) h numbered) })
       go b i m j (inr o) = inr (record { bind = b; named = m; owned = o; same = same_declaration o.declaration d ds o.among a (o.identifier ∙ j) (declared_once p (identifier_of o.declaration) h numbered) })
 
-  familiar_at : (q : Place) → Among (entering q) (steps p) → IsFamiliar (node_at p) q
-  familiar_at q a = each_at (FamiliarAt (node_at p)) (steps p) (entering q) (familiar_program p h e numbered) a
-
   -- an environment that a `var` passes binds the other, too
   record Passes (v b : Bound) : Type 0 where
     var : is_bound_as bound.Var v ≡ true
@@ -197,11 +194,6 @@ module _ (p : Tree) (h : first_fault p ≡ None) (e : is_ecmascript p ≡ true) 
     scoped : has_scope b.environment ≡ true
     no_class : is_made_for environment.Class b.environment ≡ false
 
-  opened_among : (chain : List OpenScope) (s : OpenScope) → AllOpened (openers (steps p)) chain → Among s chain → IsOpened (openers (steps p)) s
-  opened_among [] s k a = absurd a
-  opened_among (z ∷ chain) s k (inl j) = subst (IsOpened (openers (steps p))) j k.0
-  opened_among (z ∷ chain) s k (inr a) = opened_among chain s k.1 a
-
   -- so does the one whose scope it passes
   passes_it : (d : Declaration) (v : IsExplained d) → StaysThere p h e numbered x v.bind v.known.declares → v.known.declares.declaration.how ≡ hoisted → (n : ℕ) → contains (map (λ s. s.number) v.known.declares.declaration.route.passed) n ≡ true
       → (b : Bound) (k : IsDeclared p h e numbered x plain_name b) → IsMade p h e numbered x plain_name b → k.declaration.route.target.number ≡ n → Passes v.bind b
@@ -209,7 +201,7 @@ module _ (p : Tree) (h : first_fault p ≡ None) (e : is_ecmascript p ≡ true) 
       let q : Place = v.known.declares.place in
       let there : Among (entering q) (steps p) = v.known.declares.entered in
       let variable : IsVariable q v.known.declares.declaration = hoisted_is q v.known.declares.declaration v.known.declares.told how in
-      let kind_of : q.node.kind ≡ kind.VariableDeclarator = declared_at (λ z. z.how ≡ hoisted → q.node.kind ≡ kind.VariableDeclarator) (declared_on_entering q) v.known.declares.declaration (hoisted_kind q) v.known.declares.told how in
+      let kind_of : q.node.kind ≡ kind.VariableDeclarator = each_declared (λ z. z.how ≡ hoisted → q.node.kind ≡ kind.VariableDeclarator) (declared_on_entering q) v.known.declares.declaration (hoisted_kind q) v.known.declares.told how in
       let binds : (is_bound_as bound.Var v.bind ≡ true) × (v.bind.passed ≡ passed (environments q.node q.path)) = variable_bound p.source_type q v.known.declares.declaration variable v.bind kind_of stays.binds in
       let (s, at, number) = scope_of_number v.known.declares.declaration.route.passed n i in
       let before : Among s (passed_before is_var q.chain) = route_passes q.chain s (subst (λ r. Among s r.passed) variable.route at) in
@@ -218,11 +210,11 @@ module _ (p : Tree) (h : first_fault p ≡ None) (e : is_ecmascript p ≡ true) 
       let passing : IsPassed (environments q.node q.path) s = passes_scope q.chain q.node q.path s round before in
       let takes : (takes_variables passing.passes ≡ false) × Among passing.passes (environments q.node q.path) = passed_takes_none (environments q.node q.path) passing.passes passing.among in
       let opened : AllOpened (openers (steps p)) q.chain = each_at (IsPlaceOpened (openers (steps p))) (steps p) (entering q) (places_opened p) there in
-      let s_opened : IsOpened (openers (steps p)) s = opened_among q.chain s opened (before_among q.chain s before) in
+      let s_opened : IsOpened (openers (steps p)) s = among_round (IsOpened (openers (steps p))) q.chain s opened (before_among q.chain s before) in
       let opener : Some k.declaration.route.target.opener ≡ Some s.opener = sym k.opened ∙ ap (slice_get (openers (steps p))) (t ∙ sym number) ∙ s_opened in
       let maker : b.environment.maker ≡ passing.passes.maker = sym k.maker ∙ some_is k.declaration.route.target.opener s.opener opener ∙ sym passing.maker in
       let made : IsMadeBy (q.node ∷ q.path) passing.passes = made_in q.node q.path passing.passes takes.1 in
-      let familiar : IsFamiliar (node_at p) q = familiar_at q there in
+      let familiar : IsFamiliar (node_at p) q = familiar_at p h e numbered q there in
       let one_maker : m.maker ≡ made.maker = some_is m.maker made.maker (sym m.found ∙ ap (node_at p) (maker ∙ made.is) ∙ known_among (node_at p) (q.node ∷ q.path) made.maker (familiar.node, familiar.path) made.among) in
       let kinds : b.environment.kind ≡ passing.passes.kind = one_kind made.maker.kind b.environment.kind passing.passes.kind passing.passes.maker (subst (λ z. may_make z.kind b.environment.kind ≡ true) one_maker m.makes) made.makes passing.scoped takes.0 in
       let same : b.environment ≡ passing.passes = λ z. record { kind = kinds z; maker = maker z } in
@@ -269,7 +261,7 @@ module _ (p : Tree) (h : first_fault p ≡ None) (e : is_ecmascript p ≡ true) 
       let here : StaysThere p h e numbered x v.bind v.known.declares = hoisted_stays d v how in
       let passing : Passes v.bind w.bind = passes_it d v here how n i w.bind (is_declared p h e numbered x plain_name w.bind any) (is_made p h e numbered x plain_name w.bind any) (ap (λ z. z.route.target.number) (declared_known p h e numbered x plain_name w.bind w.known) ∙ t) in
       let r : Place = w.known.declares.place in
-      let familiar : IsFamiliar (node_at p) r = familiar_at r w.known.declares.entered in
+      let familiar : IsFamiliar (node_at p) r = familiar_at p h e numbered r w.known.declares.entered in
       elim w.known.origin [
         | inr left ↦ never (sym (taking_takes (environments r.node r.path) w.bind.environment left.taking) ∙ passing.takes_none)
         | inl stays ↦ elim (lexical_or_taken p.source_type r familiar.parents familiar.rooted w.bind w.known.no_own r.node.kind refl stays.binds) [
@@ -318,7 +310,7 @@ module _ (p : Tree) (h : first_fault p ≡ None) (e : is_ecmascript p ≡ true) 
       go [] w = absurd (subst (UnderClause (node_at p)) w (clausal.parameter k))
       go (y ∷ l) w =
           let clause : y.kind ≡ kind.CatchClause = subst (UnderClause (node_at p)) w (clausal.parameter k) in
-          let known : AllKnown (node_at p) (y ∷ l) = subst (AllKnown (node_at p)) w (familiar_at q a).path in
+          let known : AllKnown (node_at p) (y ∷ l) = subst (AllKnown (node_at p)) w (familiar_at p h e numbered q a).path in
           (y, known.0, clause, ap (λ r. (innermost (environments q.node r)).maker) w ∙ ap (λ i. (innermost (made_by i y q.node ++ environments y l)).maker) clause)
 
   -- a function that leaves its block is bound in no clause
@@ -363,7 +355,7 @@ module _ (p : Tree) (h : first_fault p ≡ None) (e : is_ecmascript p ≡ true) 
       let t : IsTakenBy p w.bind n = taken_by p h e numbered x plain_name w.bind (inl w.known) n (ap (λ z. z.route.target.body) (declared_known p h e numbered x plain_name w.bind w.known) ∙ body) in
       let opener : v.known.declares.declaration.route.target.opener ≡ y.node_id = v.known.declares.maker ∙ ap (λ z. z.maker) (catch_environment p.source_type q.node q.path v.bind binds) ∙ maker in
       let node : t.place.node.node_id ≡ y.node_id = some_is t.place.node.node_id y.node_id (sym t.opened ∙ v.known.declares.opened ∙ ap Some opener) in
-      let same : t.place.node ≡ y = some_is t.place.node y (sym (familiar_at t.place t.entered).node ∙ ap (node_at p) node ∙ found) in
+      let same : t.place.node ≡ y = some_is t.place.node y (sym (familiar_at p h e numbered t.place t.entered).node ∙ ap (node_at p) node ∙ found) in
       different (sym (body_kind t.place t.is_body) ∙ ap (λ z. z.kind) same ∙ clause)
     where
       different : kind.BlockStatement ≡ kind.CatchClause → ⊥
@@ -377,7 +369,7 @@ module _ (p : Tree) (h : first_fault p ≡ None) (e : is_ecmascript p ≡ true) 
       q = v.known.declares.place
 
       familiar : IsFamiliar (node_at p) q
-      familiar = familiar_at q v.known.declares.entered
+      familiar = familiar_at p h e numbered q v.known.declares.entered
 
       either : (i : Bound) → Among i (bound_by_node q.node.kind p.source_type q.node q.path) → i.name ≡ x → (t : Bool) → is_bound_as bound.CatchName i ≡ t → is_bound_as bound.CatchName i ≡ false
       either i a n false k = k
@@ -509,7 +501,7 @@ module _ (p : Tree) (h : first_fault p ≡ None) (e : is_ecmascript p ≡ true) 
     no_taker : (b : Bound) → IsTakenBy p b moving.route.target.number → ⊥
     no_taker b t =
         let opener : v.bind.environment.maker ≡ t.place.node.node_id = sym v.known.declares.maker ∙ some_is moving.route.target.opener t.place.node.node_id (sym v.known.declares.opened ∙ t.opened) in
-        let same : v.known.placed.maker ≡ t.place.node = some_is v.known.placed.maker t.place.node (sym v.known.placed.found ∙ ap (node_at p) opener ∙ (familiar_at t.place t.entered).node) in
+        let same : v.known.placed.maker ≡ t.place.node = some_is v.known.placed.maker t.place.node (sym v.known.placed.found ∙ ap (node_at p) opener ∙ (familiar_at p h e numbered t.place t.entered).node) in
         let kinds : v.bind.environment.kind ≡ environment.Block = environment_kind_is v.bind.environment.kind environment.Block (subst (λ i. may_make i v.bind.environment.kind ≡ true) (ap (λ z. z.kind) same ∙ body_kind t.place t.is_body) v.known.placed.makes) in
         never (sym (taking_takes (environments from_there.node from_there.path) v.bind.environment left.taking) ∙ ap (λ z. takes_variables (record { kind = z; maker = v.bind.environment.maker })) kinds)
 
@@ -580,7 +572,7 @@ module _ (p : Tree) (h : first_fault p ≡ None) (e : is_ecmascript p ≡ true) 
   -- nor is it declared in the scope of a clause
   apart_from_own : (d c : Declaration) (v : IsExplained d) (w : IsOwned c) → v.known.declares.declaration.how ≡ caught → w.owned.declaration.route.target.number ≡ v.known.declares.declaration.route.target.number → ⊥
   apart_from_own d c v w how number =
-      none_caught p.source_type q x (λ i a n. either i a (is_bound_as bound.CatchName i) refl) q.node.kind refl (familiar_at q v.known.declares.entered).ecmascript v.known.declares.declaration v.known.declares.told v.known.declares.named how
+      none_caught p.source_type q x (λ i a n. either i a (is_bound_as bound.CatchName i) refl) q.node.kind refl (familiar_at p h e numbered q v.known.declares.entered).ecmascript v.known.declares.declaration v.known.declares.told v.known.declares.named how
     where
       q : Place
       q = v.known.declares.place
@@ -602,7 +594,7 @@ module _ (p : Tree) (h : first_fault p ≡ None) (e : is_ecmascript p ≡ true) 
           let opener : v.known.declares.declaration.route.target.opener ≡ y.node_id = v.known.declares.maker ∙ ap (λ z. z.maker) (catch_environment p.source_type q.node q.path v.bind binds) ∙ maker in
           let own_number : w.owned.scope.number ≡ v.known.declares.declaration.route.target.number = ap (λ z. z.number) (sym w.owned.target) ∙ number in
           let node : w.owned.place.node.node_id ≡ y.node_id = sym w.owned.opener ∙ some_is w.owned.scope.opener v.known.declares.declaration.route.target.opener (sym w.owned.opened ∙ ap (slice_get (openers (steps p))) own_number ∙ v.known.declares.opened) ∙ opener in
-          let same : w.owned.place.node ≡ y = some_is w.owned.place.node y (sym (familiar_at w.owned.place w.owned.entered).node ∙ ap (node_at p) node ∙ found) in
+          let same : w.owned.place.node ≡ y = some_is w.owned.place.node y (sym (familiar_at p h e numbered w.owned.place w.owned.entered).node ∙ ap (node_at p) node ∙ found) in
           by_sort w.owned.named_by.sort (ap (λ z. z.kind) same ∙ clause)
 
       either : (i : Bound) → Among i (bound_by_node q.node.kind p.source_type q.node q.path) → (t : Bool) → is_bound_as bound.CatchName i ≡ t → is_bound_as bound.CatchName i ≡ false

@@ -38,9 +38,12 @@ use Rattle.walk_model.proofs.headers.Headed.{awaiting_past, match_among}
 use Rattle.binding_laws.specs.SeenDeclarations.{is_own_name, stands_before_body, is_before_body, seen_alone, with_declaration, bound_by_all}
 use Rattle.binding_laws.proofs.CutEvents.{IsBefore, Cut, no_end, ended, not_yet}
 use Rattle.binding_laws.proofs.CutSteps.{WillAwait, cut_program}
+use Rattle.binding_laws.proofs.DeclaredMade.{is_made}
 use Rattle.binding_laws.proofs.HeaderFold.{IsCutAt, cut_at, header_start}
+use Rattle.binding_laws.proofs.ListLaws.{among_filter, each_at, filter_among}
 use Rattle.binding_laws.proofs.Matched.{IsMatchedStep, AreMatched, program_matched}
 use Rattle.binding_laws.proofs.ScopeOpeners.{openers, IsOpened, one_scope}
+use Rattle.binding_laws.proofs.SmallLaws.{never, some_is}
 use Rattle.binding_laws.proofs.SymbolsAtNodes.{symbols_are_at_nodes}
 use Rattle.language_ties.specs.AgreeingNames.{IsPlainName}
 use Rattle.language_ties.specs.Bound.{Bound, bound_by_node, is_bound_as}
@@ -52,7 +55,7 @@ use Rattle.language_ties.specs.declared.bound_as.BoundAs.TheVariants as bound
 use Rattle.language_ties.specs.declared.environment_kind.EnvironmentKind.TheVariants as environment
 use Rattle.language_ties.proofs.UndeclaredNames.{each_identifier}
 use Rattle.language_ties.proofs.agree.Answers.{symbol_of, has_symbol, answers}
-use Rattle.language_ties.proofs.agree.KnownBounds.{some_is, LeavesThere, KnownBound, bodiless}
+use Rattle.language_ties.proofs.agree.KnownBounds.{LeavesThere, KnownBound, bodiless}
 use Rattle.language_ties.proofs.agree.KnownNodes.{node_at}
 use Rattle.language_ties.proofs.agree.MadeEnvironments.{environment_kind_is}
 use Rattle.language_ties.proofs.caught.CaughtBounds.{IsTakenBy, taken_by}
@@ -65,34 +68,10 @@ use Rattle.language_ties.proofs.moved.Settled.{settled, settled_bounds, settled_
 use Rattle.language_ties.proofs.own_names.AnyBounds.{AnyBound, any_bound, IsDeclared, is_declared, declared_known}
 use Rattle.language_ties.proofs.own_names.OwnBounds.{IsOfExpression, OwnBound, own_maker}
 use Rattle.language_ties.proofs.own_names.OwnSymbols.{one_name}
-use Rattle.language_ties.proofs.shared.HomesShared.{share_symbols, is_made, until_among, until_stays, at_header}
+use Rattle.language_ties.proofs.shared.HomesShared.{share_symbols, until_among, until_stays, at_header}
 use Rattle.language_ties.proofs.shared.Runs.{SharedAtLast}
 use Rattle.language_ties.proofs.shared.Shared.{IsNowIn, IsBoundNow, BoundBy}
-use Rattle.language_ties.proofs.symbols.OneSymbol.{each_at, StaysThere, share_symbol}
-
-never : true ≡ false → ⊥
-never h = absurd cc
-
--- ---- lists
-
-filter_among : {A : Type 0} → (test : A → Bool) (xs : List A) (x : A) → Among x (filter test xs) → Among x xs × (test x ≡ true)
-filter_among test [] x a = absurd a
-filter_among test (y ∷ xs) x a = go (test y) refl a (filter_among test xs x)
-  where
-    go : (b : Bool) → test y ≡ b → Among x (cond b (y ∷ filter test xs) (filter test xs)) → (Among x (filter test xs) → Among x xs × (test x ≡ true)) → Among x (y ∷ xs) × (test x ≡ true)
-    go true e (inl q) later = (inl q, subst (λ z. test z ≡ true) q e)
-    go true e (inr i) later = let w : Among x xs × (test x ≡ true) = later i in (inr w.0, w.1)
-    go false e i later = let w : Among x xs × (test x ≡ true) = later i in (inr w.0, w.1)
-
-among_filter : {A : Type 0} → (test : A → Bool) (xs : List A) (x : A) → Among x xs → test x ≡ true → Among x (filter test xs)
-among_filter test [] x a t = absurd a
-among_filter test (y ∷ xs) x a t = go (test y) refl a (λ b. among_filter test xs x b t)
-  where
-    go : (b : Bool) → test y ≡ b → Among x (y ∷ xs) → (Among x xs → Among x (filter test xs)) → Among x (cond b (y ∷ filter test xs) (filter test xs))
-    go true e (inl q) later = inl q
-    go true e (inr i) later = inr (later i)
-    go false e (inl q) later = absurd (never (sym (subst (λ z. test z ≡ true) (sym q) t) ∙ e))
-    go false e (inr i) later = later i
+use Rattle.language_ties.proofs.symbols.OneSymbol.{StaysThere, share_symbol}
 
 -- ---- what is declared before the header ends
 

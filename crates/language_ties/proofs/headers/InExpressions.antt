@@ -1,6 +1,6 @@
 -- Where keys are marked, a reference among parameters stands in an expression of theirs.
 use Rattle.std.proofs.Common.{◌≡◌, ℕ, List, [], ◌∷◌, Option, Some, None, Bool, true, false, ◌&&◌, ◌||◌, not, inl, inr, ◌⊎◌, refl, sym, ap, subst, ◌∙◌, if◌then◌else◌}
-use Rattle.std.proofs.lemmas.Bool.{cases_Bool}
+use Rattle.std.proofs.lemmas.Bool.{cases_Bool, or_parts}
 use Rattle.semantic_syntax.proofs.Truth.{and_first, and_second}
 use Rattle.semantic_kinds.specs.Kinds.{same_kind}
 use Rattle.semantic_kinds.specs.Roles.{same_role}
@@ -26,6 +26,8 @@ use Rattle.semantic_model.proofs.steps.EachStep.{each_of_node, each_of_turn}
 use Rattle.semantic_model.proofs.steps.Turn.{Turn, turn_at}
 use Rattle.semantic_model.proofs.steps.TurnCases.{opening_case, ending_case, last_case}
 use Rattle.walk_model.proofs.places.Shapes.{holds_below}
+use Rattle.binding_laws.proofs.ListLaws.{each_at}
+use Rattle.binding_laws.proofs.SmallLaws.{never}
 use Rattle.language_ties.specs.AgreeingNames.{StandsInExpressions, AllStandInExpressions}
 use Rattle.language_ties.specs.Bound.{Bound, written}
 use Rattle.language_ties.specs.EcmaScript.{is_ecmascript_forest, is_ecmascript}
@@ -33,10 +35,6 @@ use Rattle.language_ties.specs.Environments.{refers, key_refers, contains_expres
 use Rattle.language_ties.proofs.headers.ListsOnce.{is_listing, is_list_role, some_list, once_below, tree_once}
 use Rattle.language_ties.proofs.headers.PatternShape.{is_binding, is_pattern_child, tree_patterns, is_list_child, tree_lists, unread}
 use Rattle.language_ties.proofs.shared.PlainNodes.{forests_plain}
-use Rattle.language_ties.proofs.symbols.OneSymbol.{each_at}
-
-never : true ≡ false → ⊥
-never h = absurd cc
 
 -- ---- the list of parameters of a function
 
@@ -111,10 +109,6 @@ module _ (p : Tree) where
   abbrev FitsBelow : Node → List Node → Forest → Type 0
   FitsBelow x path f = AllExpressed x path ⊎ (refers f ≡ false)
 
-  or_none : (a b : Bool) → (a || b) ≡ false → (a ≡ false) × (b ≡ false)
-  or_none false b h = (refl, h)
-  or_none true b h = absurd cc
-
   list_no_reference : (k : AstType) → same_kind k kind.FormalParameters ≡ true → same_kind k kind.IdentifierReference ≡ false
   list_no_reference k h = subst (λ z. same_kind z kind.IdentifierReference ≡ false) (sym (kind_is k kind.FormalParameters h)) refl
 
@@ -155,11 +149,11 @@ module _ (p : Tree) where
       let lists : (holds_below is_list_child k2 below && holds_below is_list_child q.node.kind after) ≡ true = and_second (is_list_child q.node.kind r k2 text) (holds_below is_list_child k2 below && holds_below is_list_child q.node.kind after) l in
       let child : Fits node (q.node ∷ q.path) = elim fits [
         | inl expressed ↦ child_of_expressed q.node q.path r node after expressed (and_first (is_list_child q.node.kind r k2 text) (holds_below is_list_child k2 below && holds_below is_list_child q.node.kind after) l) forests.0 (and_first (holds_below is_pattern_child k2 below) (holds_below is_pattern_child q.node.kind after) patterns) left
-        | inr none ↦ inr (or_none (same_kind k2 kind.IdentifierReference) (refers below) (or_none (same_kind k2 kind.IdentifierReference || refers below) (refers after) none).0)
+        | inr none ↦ inr (or_parts (same_kind k2 kind.IdentifierReference) (refers below) (or_parts (same_kind k2 kind.IdentifierReference || refers below) (refers after) none).0)
       ] in
       let others : FitsBelow q.node q.path after = elim fits [
         | inl expressed ↦ inl expressed
-        | inr none ↦ inr (or_none (same_kind k2 kind.IdentifierReference || refers below) (refers after) none).1
+        | inr none ↦ inr (or_parts (same_kind k2 kind.IdentifierReference || refers below) (refers after) none).1
       ] in
       each_of_turn FitsAt turn (record {
         before = opening_case (EachStep FitsAt) q r own n tt (tt, tt);

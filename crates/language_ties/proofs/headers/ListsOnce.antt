@@ -1,7 +1,7 @@
 -- A node has at most one list of parameters, so its first is the one.
 use Rattle.std.proofs.Common.{◌≡◌, ℕ, List, [], ◌∷◌, ◌++◌, Bool, true, false, not, ◌&&◌, ◌||◌, None, take, drop, length, refl, sym, subst, arith}
 use Rattle.std.specs.List.{list_all, list_any}
-use Rattle.std.proofs.lemmas.Bool.{eqb-true, and_from}
+use Rattle.std.proofs.lemmas.Bool.{eqb-true, and_from, or_parts, not-true}
 use Rattle.std.proofs.lemmas.List.{take-append-drop}
 use Rattle.semantic_syntax.proofs.Truth.{and_first, and_second}
 use Rattle.semantic_kinds.specs.Classes.{holds_kind}
@@ -65,14 +65,10 @@ all_single _ = refl
 
 -- ---- children that fit
 
-or_split : (a b : Bool) → (a || b) ≡ false → (a ≡ false) × (b ≡ false)
-or_split false b h = (refl, h)
-or_split true b h = absurd cc
-
 module _ (k : AstType) where
   some_append : (xs ys : List (Role × Node)) → some_list k xs ≡ false → some_list k ys ≡ false → some_list k (xs ++ ys) ≡ false
   some_append [] ys h j = j
-  some_append (x ∷ xs) ys h j = let w : (is_list_role k x.0 ≡ false) × (some_list k xs ≡ false) = or_split (is_list_role k x.0) (some_list k xs) h in rw w.0 (some_append xs ys w.1 j)
+  some_append (x ∷ xs) ys h j = let w : (is_list_role k x.0 ≡ false) × (some_list k xs ≡ false) = or_parts (is_list_role k x.0) (some_list k xs) h in rw w.0 (some_append xs ys w.1 j)
 
   run_none : (r : Role) (own : List (Role × Node)) → is_list_role k r ≡ false → list_all (λ c. same_role c.0 r) own ≡ true → some_list k own ≡ false
   run_none r [] h s = refl
@@ -85,13 +81,13 @@ module _ (k : AstType) where
   none_left [] (c ∷ cs) f h = let w : length (c ∷ cs) ≡ 0 = eqb-true (length (c ∷ cs)) 0 f in absurd (omega arith)
   none_left (p ∷ ps) cs f h =
       let n : ℕ = lead p.role cs in
-      let w : (is_list_role k p.role ≡ false) × (parts_list k ps ≡ false) = or_split (is_list_role k p.role) (parts_list k ps) h in
+      let w : (is_list_role k p.role ≡ false) × (parts_list k ps ≡ false) = or_parts (is_list_role k p.role) (parts_list k ps) h in
       subst (λ xs. some_list k xs ≡ false) (take-append-drop n cs)
       (some_append (take n cs) (drop n cs) (run_none p.role (take n cs) w.0 (lead_in_role p.role cs)) (none_left ps (drop n cs) (and_second (is_run p (take n cs)) (fit ps (drop n cs)) f) w.1))
 
   run_once : (own rest : List (Role × Node)) → some_list k own ≡ false → once k rest ≡ true → once k (own ++ rest) ≡ true
   run_once [] rest h j = j
-  run_once (c ∷ own) rest h j = let w : (is_list_role k c.0 ≡ false) × (some_list k own ≡ false) = or_split (is_list_role k c.0) (some_list k own) h in rw w.0 (run_once own rest w.1 j)
+  run_once (c ∷ own) rest h j = let w : (is_list_role k c.0 ≡ false) × (some_list k own ≡ false) = or_parts (is_list_role k c.0) (some_list k own) h in rw w.0 (run_once own rest w.1 j)
 
   -- one list alone, with none behind
   single_once : (own rest : List (Role × Node)) → length own ≡ 1 → some_list k rest ≡ false → once k rest ≡ true → once k (own ++ rest) ≡ true
@@ -109,10 +105,6 @@ module _ (k : AstType) where
   one_of AnyNumber n s h = absurd cc
   one_of AtLeastOne n s h = absurd cc
 
-  not_true_of : (b : Bool) → not b ≡ true → b ≡ false
-  not_true_of true h = absurd cc
-  not_true_of false h = refl
-
   fit_once : (ps : List Part) (cs : List (Role × Node)) → singles k ps ≡ true → fit ps cs ≡ true → once k cs ≡ true
   fit_once [] [] s f = refl
   fit_once [] (c ∷ cs) s f = let w : length (c ∷ cs) ≡ 0 = eqb-true (length (c ∷ cs)) 0 f in absurd (omega arith)
@@ -128,7 +120,7 @@ module _ (k : AstType) where
       by true e h run rest later =
           single_once (take (lead p.role cs) cs) (drop (lead p.role cs) cs)
           (one_of p.count (length (take (lead p.role cs) cs)) (and_first (is_one p.count) (not (parts_list k ps)) h) (and_first (allows p.count (length (take (lead p.role cs) cs))) (all_of p.class (take (lead p.role cs) cs)) run))
-          (none_left ps (drop (lead p.role cs) cs) rest (not_true_of (parts_list k ps) (and_second (is_one p.count) (not (parts_list k ps)) h))) later
+          (none_left ps (drop (lead p.role cs) cs) rest (not-true (parts_list k ps) (and_second (is_one p.count) (not (parts_list k ps)) h))) later
 
 -- ---- the tree
 

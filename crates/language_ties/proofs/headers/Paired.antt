@@ -22,9 +22,6 @@ use Rattle.language_ties.specs.declared.bound_as.BoundAs.{BoundAs}
 use Rattle.language_ties.specs.declared.bound_as.BoundAs.TheVariants as bound
 use Rattle.language_ties.specs.declared.environment_kind.EnvironmentKind.TheVariants as environment
 
-never : true ≡ false → ⊥
-never h = absurd cc
-
 module _ (s : SourceType) (q : Place) where
   abbrev pub es : List Environment
   es = environments q.node q.path

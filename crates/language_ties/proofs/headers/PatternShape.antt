@@ -1,7 +1,7 @@
 -- Among parameters without an expression stands no reference.
 use Rattle.std.proofs.Common.{◌≡◌, ℕ, List, [], ◌∷◌, Bool, true, false, ◌&&◌, ◌||◌, not, None, inl, inr, ◌⊎◌, refl, sym, subst, ◌∙◌}
 use Rattle.std.specs.List.{list_all}
-use Rattle.std.proofs.lemmas.Bool.{cases_Bool}
+use Rattle.std.proofs.lemmas.Bool.{cases_Bool, or_parts}
 use Rattle.semantic_syntax.proofs.Truth.{and_first, and_second}
 use Rattle.semantic_kinds.specs.Classes.{is_of, is_pattern, holds_kind}
 use Rattle.semantic_kinds.specs.Kinds.{same_kind}
@@ -22,13 +22,11 @@ use Rattle.semantic_tree.specs.Tree.{Tree}
 use Rattle.semantic_model.proofs.form.Clauses.{kind_is}
 use Rattle.semantic_model.proofs.form.PartsHold.{passed_hold}
 use Rattle.walk_model.proofs.places.Shapes.{only_is, holds_below, tree_holds}
+use Rattle.binding_laws.proofs.SmallLaws.{never, implied}
 use Rattle.language_ties.specs.EcmaScript.{is_ecmascript_kind, is_ecmascript_forest}
 use Rattle.language_ties.specs.Environments.{refers, key_refers, contains_expression}
 use Rattle.language_ties.proofs.headers.ListsOnce.{is_list_role}
 use Rattle.language_ties.proofs.shared.PlainNodes.{forests_plain}
-
-never : true ≡ false → ⊥
-never h = absurd cc
 
 -- ---- the shape
 
@@ -50,10 +48,6 @@ abbrev is_bound_class : Class → Bool
 is_bound_class class.Pattern = true
 is_bound_class (class.Only k) = is_bound_part k
 is_bound_class _ = false
-
-either : (a b : Bool) → (a || b) ≡ true → (a ≡ true) ⊎ (b ≡ true)
-either true b h = inl refl
-either false b h = inr h
 
 of_pattern : (k : AstType) → is_pattern k ≡ true → is_bound_part k ≡ true
 of_pattern kind.BindingIdentifier h = refl
@@ -104,22 +98,14 @@ list_holds : (k : AstType) (part : Part) (k2 : AstType) (text : List ℕ) → pa
 unfolding part_lists
 list_holds k part k2 text h i = by (same_kind k2 kind.FormalParameters) refl
   where
-    other : (a b : Bool) → (not a || b) ≡ true → a ≡ true → b ≡ true
-    other true b w v = w
-    other false b w v = absurd cc
-
     by : (b : Bool) → same_kind k2 kind.FormalParameters ≡ b → (not b || is_list_role k part.role) ≡ true
     by false e = refl
-    by true e = other (is_of part.class kind.FormalParameters text) (is_list_role k part.role) h (subst (λ z. is_of part.class z text ≡ true) (kind_is k2 kind.FormalParameters e) i)
+    by true e = implied (is_of part.class kind.FormalParameters text) (is_list_role k part.role) h (subst (λ z. is_of part.class z text ≡ true) (kind_is k2 kind.FormalParameters e) i)
 
 pub tree_lists : (p : Tree) → first_fault p ≡ None → holds_below is_list_child p.root.kind p.root.children ≡ true
 tree_lists p h = tree_holds is_list_child (λ k. passed_hold is_list_child (part_lists k) k (list_holds k) (parts k) (all_list k)) p h
 
 -- ---- no reference
-
-or_none : (a b : Bool) → (a || b) ≡ false → (a ≡ false) × (b ≡ false)
-or_none false b h = (refl, h)
-or_none true b h = absurd cc
 
 -- what a tree without an expression is
 pub record NoExpression (r : Role) (k : AstType) (computed : Bool) (below after : Forest) : Type 0 where
@@ -182,10 +168,10 @@ unread k (tree r k2 span text marks below id after) b q e h n =
     let forests : (is_ecmascript_forest below ≡ true) × (is_ecmascript_forest after ≡ true) = forests_plain _ below after e in
     let more : (holds_below is_pattern_child k2 below && holds_below is_pattern_child k after) ≡ true = and_second (is_pattern_child k r k2 text) (holds_below is_pattern_child k2 below && holds_below is_pattern_child k after) h in
     let child : (is_apart k r || is_bound_part k2) ≡ true = rw b at (and_first (is_pattern_child k r k2 text) (holds_below is_pattern_child k2 below && holds_below is_pattern_child k after) h) in
-    let rest : refers after ≡ false = unread k after b (λ i. (or_none (same_role r role.Key && (same_kind k2 kind.IdentifierReference || refers below)) (key_refers after) (q i)).1) forests.1 (and_second (holds_below is_pattern_child k2 below) (holds_below is_pattern_child k after) more) none.others in
+    let rest : refers after ≡ false = unread k after b (λ i. (or_parts (same_role r role.Key && (same_kind k2 kind.IdentifierReference || refers below)) (key_refers after) (q i)).1) forests.1 (and_second (holds_below is_pattern_child k2 below) (holds_below is_pattern_child k after) more) none.others in
     elim (which k r k2 child none.no_initializer none.no_default (kind_here k2 r _ _ e)) [
-      | inl key ↦ (let here : (same_role r role.Key && (same_kind k2 kind.IdentifierReference || refers below)) ≡ false = (or_none (same_role r role.Key && (same_kind k2 kind.IdentifierReference || refers below)) (key_refers after) (q key.0)).0 in
-          let two : (same_kind k2 kind.IdentifierReference ≡ false) × (refers below ≡ false) = or_none (same_kind k2 kind.IdentifierReference) (refers below) (rw key.1 at here) in
+      | inl key ↦ (let here : (same_role r role.Key && (same_kind k2 kind.IdentifierReference || refers below)) ≡ false = (or_parts (same_role r role.Key && (same_kind k2 kind.IdentifierReference || refers below)) (key_refers after) (q key.0)).0 in
+          let two : (same_kind k2 kind.IdentifierReference ≡ false) × (refers below ≡ false) = or_parts (same_kind k2 kind.IdentifierReference) (refers below) (rw key.1 at here) in
           rw (two.0, two.1, rest) refl)
       | inr binds ↦ (let quiet : HasQuietKey k2 below = quiet_key k2 (has_mark marks mark.Computed) below none.no_key in
           let inner : refers below ≡ false = unread k2 below binds quiet forests.0 (and_first (holds_below is_pattern_child k2 below) (holds_below is_pattern_child k after) more) none.inner in

@@ -17,6 +17,8 @@ use Rattle.semantic_model.specs.Place.{Place}
 use Rattle.semantic_model.specs.Step.{entering, steps}
 use Rattle.semantic_model.proofs.lists.Members.{among_left, among_right}
 use Rattle.semantic_model.proofs.once.ListedUnder.{name_tells}
+use Rattle.binding_laws.proofs.ListLaws.{each_at}
+use Rattle.binding_laws.proofs.SmallLaws.{never, some_is}
 use Rattle.language_ties.specs.AgreeingNames.{has_none, is_declared_plainly, leaves_block, crossed, IsAlone, IsPlainName, StandsInExpressions}
 use Rattle.language_ties.specs.Bound as language
 use Rattle.language_ties.specs.Bound.{Bound, is_bound_as, written}
@@ -38,14 +40,7 @@ use Rattle.language_ties.proofs.clear.PassedScopes.{taking_takes}
 use Rattle.language_ties.proofs.moved.FirstMade.{IsFirstMade, first_made, RoundIt, round_it}
 use Rattle.language_ties.proofs.moved.OnWays.{IsLeftSomewhere, left_somewhere}
 use Rattle.language_ties.proofs.moved.Settled.{settled, settled_bounds, bound_as_settled, settled_name, settled_identifier, settled_stays, settled_leaves, settled_environments, settled_among, IsSettled, is_settled, leaves_function, other_stays, no_function, plain_stays}
-use Rattle.language_ties.proofs.symbols.OneSymbol.{each_at}
 use Rattle.language_ties.proofs.tangled.NamePlaces.{AllEnteredAs, AmidAt, amid_program}
-
-never : true ≡ false → ⊥
-never h = absurd cc
-
-some_is : {A : Type 0} (x y : A) → Some x ≡ Some y → x ≡ y
-some_is x y h = cc
 
 -- what leaves no block is bound as it is written
 moved_stays : (ws : List Bound) (b : Bound) → leaves_block b ≡ false → moved_by ws b ≡ b

@@ -6,7 +6,6 @@ use Rattle.semantic_kinds.specs.Kinds.{same_kind}
 use Rattle.semantic_kinds.specs.Roles.{same_role}
 use Rattle.semantic_kinds.specs.declared.kind.AstType.{AstType}
 use Rattle.semantic_kinds.specs.declared.kind.AstType.TheVariants as kind
-use Rattle.semantic_kinds.specs.declared.role.Role.{Role}
 use Rattle.semantic_kinds.specs.declared.role.Role.TheVariants as role
 use Rattle.semantic_syntax.specs.Sets.{meets, union}
 use Rattle.semantic_syntax.specs.SourceTypes.{is_module}
@@ -20,24 +19,22 @@ use Rattle.semantic_model.specs.Binder.{is_clause, is_statement}
 use Rattle.semantic_model.specs.Cursor.{on_entering}
 use Rattle.semantic_model.specs.EachStep.{EachStep}
 use Rattle.semantic_model.specs.Entries.{Among}
-use Rattle.semantic_model.specs.Inside.{is_inside, is_in_header, is_parameter_decorator}
 use Rattle.semantic_model.specs.Place as place
-use Rattle.semantic_model.specs.Place.{Place, OpenScope, outside, is_strict}
+use Rattle.semantic_model.specs.Place.{Place, OpenScope, is_strict}
 use Rattle.semantic_model.specs.ScopeKind.{strict_if, accessor, value_of, method_flags, flags_of_kind, opened_scope}
-use Rattle.semantic_model.specs.Step.{Step, entering, opening, header_ending, closing, leaving, steps_below, steps, root_place, scope_at, child_place, child_scopes}
+use Rattle.semantic_model.specs.Step.{Step, entering, opening, header_ending, closing, leaving, steps_below, steps, root_place}
 use Rattle.semantic_model.proofs.steps.EachStep.{EachOfTurn, each_left, each_of_node, each_of_turn, turn_of_each}
 use Rattle.semantic_model.proofs.steps.Turn.{Turn, turn_at}
 use Rattle.semantic_model.proofs.steps.TurnCases.{opening_case, ending_case, last_case}
 use Rattle.walk_model.proofs.headers.NoStatements.{is_loose, is_statement_text}
+use Rattle.binding_laws.proofs.ListLaws.{each_at}
+use Rattle.binding_laws.proofs.ScopesRound.{AllRound, OwnRound, own_round, child_round}
+use Rattle.binding_laws.proofs.SmallLaws.{never}
 use Rattle.language_ties.specs.EcmaScript.{is_ecmascript}
 use Rattle.language_ties.proofs.agree.FamiliarPlaces.{IsFamiliar, FamiliarAt, familiar_program}
 use Rattle.language_ties.proofs.agree.KnownNodes.{node_at}
 use Rattle.language_ties.proofs.caught.CalmPlaces.{IsCalm, IsQuietPlace, QuietAt, quiet_program}
 use Rattle.language_ties.proofs.caught.ClausePlaces.{IsClausal, ClausalAt, clausal_program, body_kind}
-use Rattle.language_ties.proofs.symbols.OneSymbol.{each_at}
-
-never : true ≡ false → ⊥
-never h = absurd cc
 
 -- ---- flags
 
@@ -153,45 +150,13 @@ module _ (g : ℕ → Option Node) where
   IsFlagged s = is_clause s ≡ true → (x : Node) × (g s.opener ≡ Some x) × (same_kind x.kind kind.CatchClause ≡ true)
 
   abbrev pub AllFlagged : List OpenScope → Type 0
-  AllFlagged [] = Unit {0}
-  AllFlagged (s ∷ ss) = IsFlagged s × AllFlagged ss
-
-  abbrev OwnFlagged : Option OpenScope → Type 0
-  OwnFlagged None = Unit {0}
-  OwnFlagged (Some s) = IsFlagged s
+  AllFlagged chain = AllRound IsFlagged chain
 
   opened_flagged : (p : Place) (n : ℕ) → g p.node.node_id ≡ Some p.node → IsFlagged (opened_scope p n)
   opened_flagged p n k flag = elim (cases_Bool (same_kind p.node.kind kind.CatchClause)) [
     | inl w ↦ (p.node, k, w)
     | inr w ↦ absurd (never (sym flag ∙ other_flags p.node.kind p (is_strict p.chain) w))
   ]
-
-  own_flagged : (p : Place) (r : Role) (own : Option OpenScope) (n : ℕ) → g p.node.node_id ≡ Some p.node → OwnFlagged own → OwnFlagged (scope_at p r own n)
-  own_flagged p r (Some s) n k h = h
-  own_flagged p r None n k h = go (is_inside p.node.kind r)
-    where
-      go : (t : Bool) → OwnFlagged (cond t (Some (opened_scope p n)) None)
-      go true = opened_flagged p n k
-      go false = tt
-
-  outside_flagged : (ss : List OpenScope) → AllFlagged ss → AllFlagged (outside ss)
-  outside_flagged [] h = tt
-  outside_flagged (s ∷ ss) h = h.1
-
-  within_flagged : (p : Place) (r : Role) (own : Option OpenScope) → AllFlagged p.chain → OwnFlagged own → AllFlagged (child_scopes p r own)
-  within_flagged p r None a o = a
-  within_flagged p r (Some s) a o = go (is_inside p.node.kind r)
-    where
-      go : (t : Bool) → AllFlagged (cond t (record s { in_header = is_in_header p.node.kind r } ∷ p.chain) p.chain)
-      go true = (o, a)
-      go false = a
-
-  child_flagged : (p : Place) (own : Option OpenScope) (cursor : ℕ) (r : Role) (node : Node) → AllFlagged p.chain → OwnFlagged own → AllFlagged (child_place p own cursor r node).chain
-  child_flagged p own cursor r node a o = go (is_parameter_decorator p.node.kind r)
-    where
-      go : (t : Bool) → AllFlagged (cond t (outside p.chain) (child_scopes p r own))
-      go true = outside_flagged p.chain a
-      go false = within_flagged p r own a o
 
   abbrev pub FlaggedAt : Step → Type 0
   FlaggedAt (entering q) = AllFlagged q.chain
@@ -200,15 +165,15 @@ module _ (g : ℕ → Option Node) where
   FlaggedAt (closing q o) = Unit {0}
   FlaggedAt (leaving q) = Unit {0}
 
-  flagged_steps : (q : Place) (own : Option OpenScope) (n cursor : ℕ) (f : Forest) → AllFlagged q.chain → g q.node.node_id ≡ Some q.node → OwnFlagged own → EachStep (FamiliarAt g) (steps_below q own n cursor f) → EachStep FlaggedAt (steps_below q own n cursor f)
+  flagged_steps : (q : Place) (own : Option OpenScope) (n cursor : ℕ) (f : Forest) → AllFlagged q.chain → g q.node.node_id ≡ Some q.node → OwnRound IsFlagged own → EachStep (FamiliarAt g) (steps_below q own n cursor f) → EachStep FlaggedAt (steps_below q own n cursor f)
   flagged_steps q own n cursor nothing a k o h = last_case (EachStep FlaggedAt) q own n tt (tt, (tt, tt))
   flagged_steps q own n cursor (tree r k2 span text marks below id after) a k o h =
       let node : Node = record { kind = k2; span = span; text = text; marks = marks; children = below; node_id = id } in
       let turn : Turn = turn_at q own n cursor r node after in
       let sees : EachOfTurn (FamiliarAt g) turn = turn_of_each (FamiliarAt g) turn h in
       let child_familiar : IsFamiliar g turn.child = sees.whole.0 in
-      let o_scope : OwnFlagged turn.scope = own_flagged q r own n k o in
-      let child : AllFlagged turn.child.chain = child_flagged q turn.scope cursor r node a o_scope in
+      let o_scope : OwnRound IsFlagged turn.scope = own_round IsFlagged q r own n (opened_flagged q n k) o in
+      let child : AllFlagged turn.child.chain = child_round IsFlagged (λ s b h. h) q turn.scope cursor r node a o_scope in
       each_of_turn FlaggedAt turn (record {
         before = opening_case (EachStep FlaggedAt) q r own n tt (tt, tt);
         whole = each_of_node FlaggedAt turn.child turn.below child (flagged_steps turn.child None turn.next turn.inner below child child_familiar.node tt (each_left (FamiliarAt g) turn.below (leaving turn.child ∷ []) sees.whole.1)) tt;

@@ -22,6 +22,8 @@ use Rattle.semantic_model.specs.Step.{entering, steps}
 use Rattle.program_laws.proofs.DeclaredNodes.{among_map, among_flat}
 use Rattle.walk_model.proofs.written.OwnOpeners.{IsListed, openers_of, all_listed}
 use Rattle.walk_model.proofs.written.ScopesAround.{IsStepHeld}
+use Rattle.binding_laws.proofs.ListLaws.{of_map, each_at}
+use Rattle.binding_laws.proofs.SmallLaws.{never, some_is, none_is}
 use Rattle.language_ties.specs.AgreeingNames.{leaves_block}
 use Rattle.language_ties.specs.Bound as language
 use Rattle.language_ties.specs.Bound.{Bound, bound_identifier, bound_here, bound_outward, bound_by_declarator, bound_by_declaration, bound_by_function, bound_by_class, bound_by_catch, bound_by_node, is_bound_as}
@@ -40,16 +42,6 @@ use Rattle.language_ties.proofs.block_functions.StrictScopes.{strictness_agrees}
 use Rattle.language_ties.proofs.clear.PassedScopes.{takes_some}
 use Rattle.language_ties.proofs.moved.ClauseFlags.{stands_in_no_clause}
 use Rattle.language_ties.proofs.moved.Settled.{leaves_function}
-use Rattle.language_ties.proofs.symbols.OneSymbol.{of_map, each_at}
-
-never : true ≡ false → ⊥
-never h = absurd cc
-
-some_is : {A : Type 0} (x y : A) → Some x ≡ Some y → x ≡ y
-some_is x y h = cc
-
-none_is : {A : Type 0} (x : A) → None ≡ Some x → ⊥
-none_is x h = absurd cc
 
 -- ---- as the language binds it
 

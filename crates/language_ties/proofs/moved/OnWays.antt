@@ -19,7 +19,10 @@ use Rattle.semantic_model.proofs.once.ListedUnder.{name_tells}
 use Rattle.program_laws.proofs.DeclaredNodes.{among_flat}
 use Rattle.walk_model.proofs.declares.Simulated.{program_nested}
 use Rattle.walk_model.proofs.places.Nested.{AreNested, Descends, open_past, seen_past}
+use Rattle.binding_laws.proofs.ListLaws.{of_map, of_flat, each_at}
 use Rattle.binding_laws.proofs.ScopeOpeners.{openers, IsOpened, AllOpened, IsPlaceOpened, places_opened}
+use Rattle.binding_laws.proofs.ScopesRound.{among_round}
+use Rattle.binding_laws.proofs.SmallLaws.{never, some_is, either}
 use Rattle.language_ties.specs.AgreeingNames.{is_declared_plainly, leaves_block, crossed, IsAlone, IsPlainName}
 use Rattle.language_ties.specs.Bound.{Bound, bound_by_node, is_bound_as, written}
 use Rattle.language_ties.specs.EcmaScript.{is_ecmascript}
@@ -36,13 +39,7 @@ use Rattle.language_ties.proofs.clear.SingleNames.{identifier_of, same_declarati
 use Rattle.language_ties.proofs.headers.Paired.{by_kind}
 use Rattle.language_ties.proofs.moved.LeavingFunctions.{LeavesAt, leaves_at, IsLeft, is_left}
 use Rattle.language_ties.proofs.own_names.OwnBounds.{IsOfExpression, OwnBound, own_bound, own_maker}
-use Rattle.language_ties.proofs.symbols.OneSymbol.{of_map, of_flat, each_at, DeclarationOf, StaysThere, declaration_of}
-
-never : true ≡ false → ⊥
-never h = absurd cc
-
-some_is : {A : Type 0} (x y : A) → Some x ≡ Some y → x ≡ y
-some_is x y h = cc
+use Rattle.language_ties.proofs.symbols.OneSymbol.{DeclarationOf, StaysThere, declaration_of}
 
 -- ---- chains and routes
 
@@ -112,10 +109,6 @@ record Bars (ds : List Declaration) (d : Declaration) (cs : List OpenScope) : Ty
   stands : stands_in other ≡ scope.number
   named : other.naming.name ≡ d.naming.name
 
-either : (a b : Bool) → (a || b) ≡ true → (a ≡ true) ⊎ (b ≡ true)
-either true b h = inl refl
-either false b h = inr h
-
 what_bars : (ds : List Declaration) (d : Declaration) (cs : List OpenScope) → is_barred ds d cs ≡ true → Bars ds d cs
 what_bars ds d [] h = absurd (never (sym h))
 what_bars ds d (c ∷ cs) h = elim (either (any_bars d c ds) (is_barred ds d cs) h) [
@@ -165,11 +158,6 @@ module _ (p : Tree) (h : first_fault p ≡ None) (e : is_ecmascript p ≡ true) 
     pub passed : (s : OpenScope) → Among s d.route.passed → IsOnWay b s.number
     pub target : IsOnWay b d.route.target.number
 
-  opened_among : (chain : List OpenScope) (s : OpenScope) → AllOpened (openers (steps p)) chain → Among s chain → IsOpened (openers (steps p)) s
-  opened_among [] s k a = absurd a
-  opened_among (z ∷ chain) s k (inl j) = subst (IsOpened (openers (steps p))) j k.0
-  opened_among (z ∷ chain) s k (inr a) = opened_among chain s k.1 a
-
   chain_opened : (q : Place) → Among (entering q) (steps p) → AllOpened (openers (steps p)) q.chain
   chain_opened q a = each_at (IsPlaceOpened (openers (steps p))) (steps p) (entering q) (places_opened p) a
 
@@ -181,7 +169,7 @@ module _ (p : Tree) (h : first_fault p ≡ None) (e : is_ecmascript p ≡ true) 
         passes = k.passes;
         among = inr (among_left k.passes b.passed b.also (subst (Among k.passes) (sym same) k.among));
         no_body = scope_no_body k.passes k.scoped;
-        opened = opened_among q.chain s (chain_opened q a) (before_among q.chain s i) ∙ ap Some (sym k.maker);
+        opened = among_round (IsOpened (openers (steps p))) q.chain s (chain_opened q a) (before_among q.chain s i) ∙ ap Some (sym k.maker);
       }
 
   -- what is bound plainly
@@ -218,7 +206,7 @@ module _ (p : Tree) (h : first_fault p ≡ None) (e : is_ecmascript p ≡ true) 
       passes = l.variable;
       among = inr (among_right l.variable c.passed c.also (subst (Among l.variable) (sym l.also) (inl refl)));
       no_body = (taking_usual l.variable (taking_takes (environments q.node q.path) l.variable l.taking)).1;
-      opened = opened_among q.chain l.declaration.route.target (chain_opened q a) (first_among q.chain l.declaration.route.target l.target) ∙ ap Some l.opener;
+      opened = among_round (IsOpened (openers (steps p))) q.chain l.declaration.route.target (chain_opened q a) (first_among q.chain l.declaration.route.target l.target) ∙ ap Some l.opener;
     };
   }
 

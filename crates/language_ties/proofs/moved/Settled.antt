@@ -6,6 +6,8 @@ use Rattle.semantic_tree.specs.Tree.{Tree}
 use Rattle.semantic_model.specs.Entries.{Among}
 use Rattle.semantic_model.specs.Step.{steps}
 use Rattle.program_laws.proofs.DeclaredNodes.{among_map}
+use Rattle.binding_laws.proofs.ListLaws.{of_map}
+use Rattle.binding_laws.proofs.SmallLaws.{never}
 use Rattle.language_ties.specs.AgreeingNames.{has_none, is_declared_plainly, is_plain, leaves_block}
 use Rattle.language_ties.specs.Bound.{Bound, is_bound_as, written}
 use Rattle.language_ties.specs.Environments.{Environment, is_made_for}
@@ -15,10 +17,6 @@ use Rattle.language_ties.specs.contracts.bound_as.BoundAs.{the_type as the_ways}
 use Rattle.language_ties.specs.declared.bound_as.BoundAs.{BoundAs}
 use Rattle.language_ties.specs.declared.bound_as.BoundAs.TheVariants as bound
 use Rattle.language_ties.specs.declared.environment_kind.EnvironmentKind.TheVariants as environment
-use Rattle.language_ties.proofs.symbols.OneSymbol.{of_map}
-
-never : true ≡ false → ⊥
-never h = absurd cc
 
 -- a function that leaves its block is bound where its variable is, and there alone
 abbrev pub settled : Bound → Bound

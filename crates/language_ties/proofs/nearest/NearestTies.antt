@@ -1,13 +1,11 @@
 -- In a program of ECMAScript each reference is tied to what the nearest scope binds to its name.
 use Rattle.std.proofs.Common.{◌≡◌, ℕ, ◌∷◌, [], List, Option, Some, None, Bool, true, false, cond, map, inl, inr, refl, sym, ap, subst, ◌∙◌, bytes_eq, codes}
 use Rattle.std.specs.Prelude.{slice_get}
-use Rattle.semantic_kinds.specs.declared.kind.AstType.TheVariants as kind
-use Rattle.semantic_syntax.specs.Lookup.{Lookup, tied, barred, lookup, tied_by, or_lookup, is_arguments, fits, ends_after}
+use Rattle.semantic_syntax.specs.Lookup.{Lookup, barred, lookup, tied_by, or_lookup, is_arguments, ends_after}
 use Rattle.semantic_syntax.specs.Tables.{Name}
 use Rattle.semantic_syntax.specs.Usable.{is_usable}
 use Rattle.semantic_tree.specs.Faults.{first_fault}
 use Rattle.semantic_tree.specs.Tree.{Tree}
-use Rattle.semantic_tree.specs.Views.{is}
 use Rattle.semantic_model.specs.Binding.{get}
 use Rattle.semantic_model.specs.Cursor.{way_or_read}
 use Rattle.semantic_model.specs.EachStep.{EachStep}

@@ -11,11 +11,12 @@ use Rattle.semantic_model.specs.Binder.{ambient_if, declared_on_entering, declar
 use Rattle.semantic_model.specs.Binding.{get, bound_by}
 use Rattle.semantic_model.specs.Declaration.{Declaration, How, plain, hoisted, moved, caught, stands_in}
 use Rattle.semantic_model.specs.EachStep.{EachStep}
-use Rattle.semantic_model.specs.Event.{Event, declares, takes_over, ends_header, is_barred, staying_declaration, placed_by, is_catch_body, declares_all, taken_over, events_of, events}
-use Rattle.semantic_model.specs.Fold.{State, update, redeclared, united, in_scope, new_symbol, note_symbol, against, declare_in, chosen, found}
+use Rattle.semantic_model.specs.Event.{Event, declares, takes_over, ends_header, is_barred, staying_declaration, placed_by, is_catch_body, declares_all, taken_over, events_of}
+use Rattle.semantic_model.specs.Fold.{State, update, redeclared, united, in_scope, new_symbol, note_symbol, declare_in, chosen, found}
 use Rattle.semantic_model.specs.Hoist.{PassedSymbol, passed_symbol, asked_symbols, against_all, remembering, move_symbol, hoist_by, move_out, declare_by, rescoped, act, run}
 use Rattle.semantic_model.specs.Place.{Place, OpenScope, innermost, outside}
 use Rattle.semantic_model.specs.Step.{Step, entering, opening, header_ending, closing, leaving}
+use Rattle.binding_laws.proofs.Growing.{against_symbols}
 use Rattle.language_ties.proofs.shared.DeclaredFlags.{variable_flags, flags_of_function, HoldsOfRows, AllHaveFlags, flags_entering, flags_opening}
 use Rattle.language_ties.proofs.shared.PlainNodes.{IsEcmaScriptAt}
 
@@ -85,10 +86,6 @@ values_rescoped ys (e ∷ bs) b h = values_rescoped (update (in_scope b) ys e.1)
 
 -- ---- the fold
 
-symbols_against_all : (st : State) (d : Declaration) (ss : List ℕ) → (against_all st d ss).symbols ≡ st.symbols
-symbols_against_all st d [] = refl
-symbols_against_all st d (s ∷ ss) = symbols_against_all (against st d s) d ss
-
 symbols_remembering : (st : State) (cs : List OpenScope) (x : Name) (s : ℕ) → (remembering st cs x s).symbols ≡ st.symbols
 symbols_remembering st cs x s = refl
 
@@ -115,7 +112,7 @@ module _ (d : Declaration) (v : IsValue d.naming.flags) where
   values_by plain st h = values_declare_in st d.route.target.number (found st d.route.target.number d.naming.name) h
   values_by hoisted st h =
       let ss : List ℕ = asked_symbols st d.route.passed d.naming.name in
-      values_hoist_by (against_all st d ss) (passed_symbol st d.route.passed d.naming.name) (subst AllValues (sym (symbols_against_all st d ss)) h)
+      values_hoist_by (against_all st d ss) (passed_symbol st d.route.passed d.naming.name) (subst AllValues (sym (against_symbols st d ss)) h)
   values_by moved st h =
       let o : Option ℕ = found st (stands_in d) d.naming.name in
       values_move_out (declare_in st (stands_in d) d o) (stands_in d) d.route.target.number d.naming.name (chosen st o) (get st.bindings d.route.target.number d.naming.name) (values_declare_in st (stands_in d) o h)

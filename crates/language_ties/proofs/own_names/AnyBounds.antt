@@ -9,7 +9,9 @@ use Rattle.semantic_model.specs.Declaration.{Declaration}
 use Rattle.semantic_model.specs.Entries.{Among}
 use Rattle.semantic_model.specs.Event.{declarations, events}
 use Rattle.semantic_model.specs.Step.{entering, steps}
+use Rattle.binding_laws.proofs.ListLaws.{each_at}
 use Rattle.binding_laws.proofs.ScopeOpeners.{openers, IsOpened}
+use Rattle.binding_laws.proofs.SmallLaws.{never}
 use Rattle.language_ties.specs.AgreeingNames.{IsPlainName}
 use Rattle.language_ties.specs.Bound.{Bound, is_bound_as}
 use Rattle.language_ties.specs.EcmaScript.{is_ecmascript}
@@ -22,10 +24,6 @@ use Rattle.language_ties.proofs.agree.KnownNodes.{node_at}
 use Rattle.language_ties.proofs.agree.MadeEnvironments.{may_make}
 use Rattle.language_ties.proofs.moved.Settled.{settled_bounds, no_function, unsettled}
 use Rattle.language_ties.proofs.own_names.OwnBounds.{IsOfExpression, OwnBound, own_bound, own_maker}
-use Rattle.language_ties.proofs.symbols.OneSymbol.{each_at}
-
-never : true ≡ false → ⊥
-never h = absurd cc
 
 module _ (p : Tree) (h : first_fault p ≡ None) (e : is_ecmascript p ≡ true) (numbered : IsNumbered p.root) (x : Name) (plain : IsPlainName p x) where
   -- declared, or the own name of an expression

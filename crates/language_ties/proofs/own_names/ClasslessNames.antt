@@ -27,8 +27,10 @@ use Rattle.semantic_model.proofs.steps.TurnCases.{opening_case, ending_case, las
 use Rattle.program_laws.proofs.DeclaredNodes.{among_map}
 use Rattle.walk_model.proofs.headers.NoStatements.{is_loose, is_bound, is_statement_text, is_closed, closed_by_table, closed_by_place, table_closes, place_closes, child_closed}
 use Rattle.walk_model.proofs.places.Shapes.{holds_below}
+use Rattle.binding_laws.proofs.ListLaws.{each_at}
+use Rattle.binding_laws.proofs.SmallLaws.{never}
 use Rattle.language_ties.specs.Bound as language
-use Rattle.language_ties.specs.Bound.{Bound, bound_identifier, bound_here, bound_outward, bound_by_declarator, bound_by_declaration, bound_by_function, bound_by_class, bound_by_catch, bound_by_node, is_bound_as}
+use Rattle.language_ties.specs.Bound.{Bound, bound_identifier, bound_here, bound_outward, bound_by_declarator, bound_by_declaration, bound_by_function, bound_by_class, bound_by_node, is_bound_as}
 use Rattle.language_ties.specs.EcmaScript.{is_ecmascript}
 use Rattle.language_ties.specs.Environments.{Environment, is_made_for, made_by, environments, innermost, passed, takes_variables, variable_environment}
 use Rattle.language_ties.specs.declared.bound_as.BoundAs.{BoundAs}
@@ -44,11 +46,7 @@ use Rattle.language_ties.proofs.caught.InClauses.{IsInClause, in_clause}
 use Rattle.language_ties.proofs.clear.ParameterPlaces.{parameter_takes}
 use Rattle.language_ties.proofs.clear.PassedScopes.{variables_taken}
 use Rattle.language_ties.proofs.own_names.PassedClasses.{HoldsLoose, LooseAt, loose_program, asks, NoClass, passes_no_class, under_no_class}
-use Rattle.language_ties.proofs.symbols.OneSymbol.{each_at}
 use Rattle.language_ties.proofs.tangled.NamePlaces.{IsEnteredAs, AllEnteredAs, AmidAt, amid_program}
-
-never : true ≡ false → ⊥
-never h = absurd cc
 
 -- ---- what statements stand in
 

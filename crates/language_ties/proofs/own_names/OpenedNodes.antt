@@ -15,6 +15,7 @@ use Rattle.semantic_model.proofs.lists.Members.{among_left, among_right, among_c
 use Rattle.semantic_model.proofs.steps.OpenedFrom.{OpenedFrom}
 use Rattle.semantic_model.proofs.steps.Turn.{Turn, turn_at}
 use Rattle.semantic_model.proofs.steps.TurnCases.{opening_case, ending_case, last_case}
+use Rattle.binding_laws.proofs.EnteredOnce.{entered_place}
 use Rattle.binding_laws.proofs.ScopeOpeners.{openers, IsOpened, opened_at}
 use Rattle.language_ties.proofs.shared.Numbers.{NumberedFrom, numbered_program}
 
@@ -84,9 +85,6 @@ own_opens q n cursor (tree r k span text marks below id after) h = go (is_inside
     go false e later =
         let none : scope_at q r None n ≡ None = ap (λ b. cond b (Some (opened_scope q n)) None) e in
         opens_more q t.others (t.before ++ t.whole ++ t.behind ++ t.others) (in_others t) (subst (λ o. Opens q (steps_below q o t.rest t.past after)) (sym none) later)
-
-entered_place : (p q : Place) → entering p ≡ entering q → p ≡ q
-entered_place p q e = cc
 
 -- of the places under a node, and of its own
 abbrev AllOpen : List Step → Type 0

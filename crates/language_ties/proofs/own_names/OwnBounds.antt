@@ -23,7 +23,9 @@ use Rattle.semantic_model.specs.Step.{entering, opening, steps}
 use Rattle.semantic_model.proofs.form.Shape.{has_form}
 use Rattle.semantic_model.proofs.lists.Members.{among_right}
 use Rattle.program_laws.proofs.DeclaredNodes.{among_map, among_flat}
+use Rattle.binding_laws.proofs.ListLaws.{of_map, of_flat}
 use Rattle.binding_laws.proofs.ScopeOpeners.{openers, IsOpened}
+use Rattle.binding_laws.proofs.SmallLaws.{never}
 use Rattle.language_ties.specs.Bound as language
 use Rattle.language_ties.specs.Bound.{Bound, bound_identifier, bound_here, bound_outward, bound_by_declarator, bound_by_declaration, bound_by_function, bound_by_class, bound_by_catch, bound_by_node, is_bound_as, written}
 use Rattle.language_ties.specs.Environments.{Environment, environments, innermost, passed, variable_environment}
@@ -34,10 +36,6 @@ use Rattle.language_ties.specs.declared.environment_kind.EnvironmentKind.TheVari
 use Rattle.language_ties.proofs.agree.PlainBounds.{IsBoundAt, bound_at_place}
 use Rattle.language_ties.proofs.own_names.OpenedNodes.{Opens, scope_opens, scope_stands}
 use Rattle.language_ties.proofs.shared.Events.{function_hidden, class_visible}
-use Rattle.language_ties.proofs.symbols.OneSymbol.{of_map, of_flat}
-
-never : true ≡ false → ⊥
-never h = absurd cc
 
 -- ---- the node
 

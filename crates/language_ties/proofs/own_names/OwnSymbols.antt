@@ -1,5 +1,5 @@
 -- Of an own name, the scope that its expression opens has the symbol, unless what is declared there hides it.
-use Rattle.std.proofs.Common.{◌≡◌, ℕ, ◌<◌, List, [], ◌∷◌, Option, Some, None, true, false, inl, inr, length, sym, ap, subst, ◌∙◌, arith}
+use Rattle.std.proofs.Common.{◌≡◌, ℕ, ◌<◌, List, Option, Some, None, true, false, inl, inr, length, sym, ap, subst, ◌∙◌, arith}
 use Rattle.std.specs.Prelude.{slice_get}
 use Rattle.std.proofs.lemmas.Option.{slice_get_within}
 use Rattle.semantic_kinds.specs.declared.kind.AstType.TheVariants as kind
@@ -10,7 +10,6 @@ use Rattle.semantic_syntax.specs.Tables.{Name}
 use Rattle.semantic_tree.specs.Faults.{first_fault}
 use Rattle.semantic_tree.specs.Tree.{Tree, IsNumbered}
 use Rattle.semantic_tree.specs.Views.{is}
-use Rattle.semantic_tree.specs.declared.node.Node.{Node}
 use Rattle.semantic_model.specs.Analysis.{analysis_of, symbol_at}
 use Rattle.semantic_model.specs.Binding.{get}
 use Rattle.semantic_model.specs.Declaration.{Declaration, home, body_or}
@@ -25,7 +24,9 @@ use Rattle.semantic_model.specs.TablesOf.{tables_of, scopes, evals}
 use Rattle.semantic_model.proofs.fits.Outwards.{bound_as, scopes_length}
 use Rattle.semantic_model.proofs.fold.Orders.{table_of}
 use Rattle.walk_model.proofs.once.NamesInRole.{AtMostOne}
+use Rattle.binding_laws.proofs.DeclaredMade.{is_made}
 use Rattle.binding_laws.proofs.EnteredOnce.{entered_once}
+use Rattle.binding_laws.proofs.ListLaws.{each_at, same_of_one}
 use Rattle.binding_laws.proofs.ScopeOpeners.{openers, IsOpened, one_scope}
 use Rattle.language_ties.specs.AgreeingNames.{IsPlainName}
 use Rattle.language_ties.specs.Bound.{Bound, is_bound_as}
@@ -41,18 +42,9 @@ use Rattle.language_ties.proofs.moved.Settled.{settled, settled_bounds, settled_
 use Rattle.language_ties.proofs.own_names.AnyBounds.{AnyBound, any_bound, IsDeclared, is_declared}
 use Rattle.language_ties.proofs.own_names.OwnBounds.{OwnBound, own_maker}
 use Rattle.language_ties.proofs.own_names.OwnIds.{named_once}
-use Rattle.language_ties.proofs.shared.HomesShared.{share_symbols, is_made, at_last}
+use Rattle.language_ties.proofs.shared.HomesShared.{share_symbols, at_last}
 use Rattle.language_ties.proofs.shared.Shared.{IsBoundNow}
-use Rattle.language_ties.proofs.symbols.OneSymbol.{each_at}
 use Rattle.language_ties.proofs.symbols.SymbolNumbers.{symbol_is}
-
--- two of at most one are the same
-same_of_one : (ns : List Node) (n m : Node) → AtMostOne ns → Among n ns → Among m ns → n ≡ m
-same_of_one [] n m o a b = absurd a
-same_of_one (y ∷ []) n m o (inl i) (inl j) = sym i ∙ j
-same_of_one (y ∷ []) n m o (inl i) (inr b) = absurd b
-same_of_one (y ∷ []) n m o (inr a) b = absurd a
-same_of_one (y ∷ z ∷ ns) n m o a b = absurd o
 
 -- a function has one own name
 pub one_name : (p : Tree) (h : first_fault p ≡ None) (e : is_ecmascript p ≡ true) (numbered : IsNumbered p.root) (x : Name) (c b : Bound) (v : OwnBound p h x c) (k : OwnBound p h x b) → v.place.node.node_id ≡ k.place.node.node_id → k.place.node.kind ≡ kind.Function → c.identifier ≡ b.identifier

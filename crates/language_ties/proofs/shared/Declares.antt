@@ -22,6 +22,7 @@ use Rattle.semantic_model.proofs.lists.BindingLaws.{same_key_tells, get-put, get
 use Rattle.semantic_model.proofs.lists.Members.{among_left, among_last, among_more, contains_left, contains_right, contains_first}
 use Rattle.semantic_model.proofs.lists.SymbolLaws.{get-update, get-last}
 use Rattle.binding_laws.proofs.Growing.{pushed_flags}
+use Rattle.binding_laws.proofs.SmallLaws.{none_if}
 use Rattle.language_ties.specs.SharedSymbols.{is_own_name, IsBoundIn, KeepClear}
 use Rattle.language_ties.proofs.shared.Shared.{is_hidden, RouteBelow, IsNowIn, IsBoundNow, BoundBy, RememberedBy, Shared, bound_more, remembered_more}
 
@@ -70,10 +71,6 @@ module _ (table : List (Option ℕ)) (x : Name) where
 
   pub found_none : (st : State) (c : ℕ) → get st.bindings c x ≡ None → get st.remembered c x ≡ None → found st c x ≡ None
   found_none st c e f = rw (e, f) refl
-
-  pub none_if : (o : Option ℕ) → ((s : ℕ) → o ≡ Some s → ⊥) → o ≡ None
-  none_if None f = refl
-  none_if (Some s) f = absurd (f s refl)
 
   module _ (n m k l : ℕ) (st : State) (d : Declaration) (named : d.naming.name ≡ x) (sound : Sound table st) (h : Shared table x n m st) (fit : IsFit table n m k l d) (clear : (y : Made) → Among y st.made → y.declaration.naming.name ≡ x → KeepClear y.declaration d) where
     abbrev t : ℕ

@@ -25,10 +25,10 @@ use Rattle.semantic_model.proofs.bindings.VarTargets.{AllEventsLed, events_led}
 use Rattle.semantic_model.proofs.fits.NothingInvented.{belongs_made, made_declared}
 use Rattle.semantic_model.proofs.fits.Outwards.{bound_as, scopes_length}
 use Rattle.semantic_model.proofs.fold.Changes.{sound_start}
-use Rattle.semantic_model.proofs.fold.Orders.{Adds, adds, HasForm, table_of, root_body, steps_in, events_in, orderly_events}
+use Rattle.semantic_model.proofs.fold.Orders.{HasForm, table_of, root_body, steps_in, events_in, orderly_events}
 use Rattle.semantic_model.proofs.form.Shape.{has_form}
-use Rattle.semantic_model.proofs.lists.Members.{among_left, among_last}
 use Rattle.semantic_model.proofs.once.HeadersEndOnce.{less_or}
+use Rattle.binding_laws.proofs.DeclaredMade.{made_stays, is_made}
 use Rattle.language_ties.specs.EcmaScript.{is_ecmascript}
 use Rattle.language_ties.specs.SharedSymbols.{AllKeepClear, ShareSymbols}
 use Rattle.language_ties.proofs.shared.Events.{AllNumbered, numbered_events}
@@ -38,25 +38,6 @@ use Rattle.language_ties.proofs.shared.Runs.{SharedAtLast, shared_run, shared_un
 use Rattle.language_ties.proofs.shared.Shared.{Shared, IsBoundNow, IsNowIn, BoundBy, shared_start}
 
 -- ---- what is declared was made
-
--- what is made stays made
-made_stays : (y : Made) (st : State) (es : List Event) → Among y st.made → Among y (run st es).made
-made_stays y st [] a = a
-made_stays y st (declares d ∷ es) a =
-    let w : Adds st.made d (act st (declares d)).made = adds st d in
-    made_stays y (act st (declares d)) es (subst (Among y) (sym w.adds) (among_left y st.made (record { declaration = d; symbol = w.symbol } ∷ []) a))
-made_stays y st (takes_over c b ∷ es) a = made_stays y (act st (takes_over c b)) es a
-made_stays y st (ends_header c ∷ es) a = made_stays y st es a
-
-pub is_made : (d : Declaration) (st : State) (es : List Event) → Among d (declarations es) → (s : ℕ) × Among (record { declaration = d; symbol = s }) (run st es).made
-is_made d st [] a = absurd a
-is_made d st (declares e ∷ es) (inl q) =
-    let w : Adds st.made e (act st (declares e)).made = adds st e in
-    let y : Made = record { declaration = e; symbol = w.symbol } in
-    (w.symbol, subst (λ z. Among (record { declaration = z; symbol = w.symbol }) (run (act st (declares e)) es).made) q (made_stays y (act st (declares e)) es (subst (Among y) (sym w.adds) (among_last y st.made))))
-is_made d st (declares e ∷ es) (inr a) = is_made d (act st (declares e)) es a
-is_made d st (takes_over c b ∷ es) a = is_made d (act st (takes_over c b)) es a
-is_made d st (ends_header c ∷ es) a = is_made d st es a
 
 beyond : (bs : List Binding) (i k c : ℕ) → k ≤ c → slice_index_or (map (bound_by bs) (range_with_len i k)) c [] ≡ []
 beyond bs i zero c h = refl

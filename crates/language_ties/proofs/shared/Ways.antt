@@ -16,9 +16,10 @@ use Rattle.semantic_model.proofs.lists.BindingLaws.{same_key_tells, get-put, get
 use Rattle.semantic_model.proofs.lists.Members.{among_left, among_last, among_more}
 use Rattle.semantic_model.proofs.lists.SymbolLaws.{get-last}
 use Rattle.binding_laws.proofs.Growing.{pushed_flags, same_flags}
+use Rattle.binding_laws.proofs.SmallLaws.{none_if}
 use Rattle.language_ties.specs.SharedSymbols.{is_own_name, KeepClear}
 use Rattle.language_ties.proofs.shared.Shared.{is_hidden, IsBoundNow, BoundBy, RememberedBy, Shared, bound_more, remembered_more}
-use Rattle.language_ties.proofs.shared.Declares.{IsFit, stands_on_path, passed_stands, bound_stands, bindings_against_all, all_passed, shared_against_all, shared_remembering, none_if, now_bound, found_none, in_target, made_here, found_here, on_the_way, found_visible}
+use Rattle.language_ties.proofs.shared.Declares.{IsFit, stands_on_path, passed_stands, bound_stands, bindings_against_all, all_passed, shared_against_all, shared_remembering, now_bound, found_none, in_target, made_here, found_here, on_the_way, found_visible}
 
 among_declared : (st : State) (d : Declaration) (c : ℕ) (o : Option ℕ) → Among (record { declaration = d; symbol = chosen st o }) (declare_in st c d o).made
 among_declared st d c None = among_last (record { declaration = d; symbol = length st.symbols }) st.made
@@ -106,10 +107,10 @@ module _ (table : List (Option ℕ)) (v : ℕ → ℕ) (n m k l : ℕ) (st : Sta
     target_on_path = bound_stands d t (inl refl)
 
     unbound : (e : ℕ) → contains (path d) e ≡ true → get st.bindings e x ≡ None
-    unbound e i = none_if table x (get st.bindings e x) (λ s q. let w : BoundBy table x n m st.made e s = h.bound e s q in apart w.made w.among w.named e (bound_stands w.made.declaration e (now_bound table x w.made.declaration e w.now)) i)
+    unbound e i = none_if (get st.bindings e x) (λ s q. let w : BoundBy table x n m st.made e s = h.bound e s q in apart w.made w.among w.named e (bound_stands w.made.declaration e (now_bound table x w.made.declaration e w.now)) i)
 
     forgotten : (e : ℕ) → contains (path d) e ≡ true → get st.remembered e x ≡ None
-    forgotten e i = none_if table x (get st.remembered e x) (λ s q. let w : RememberedBy table x n st.made e s = h.remembered e s q in
+    forgotten e i = none_if (get st.remembered e x) (λ s q. let w : RememberedBy table x n st.made e s = h.remembered e s q in
         apart w.made w.among w.named e (left_path w.made.declaration e w.left) i)
       where
         left_path : (y : Declaration) (z : ℕ) → ((y.how ≡ hoisted) × (contains (map (λ s. s.number) y.route.passed) z ≡ true)) ⊎ ((y.how ≡ moved) × (stands_in y ≡ z)) → contains (path y) z ≡ true

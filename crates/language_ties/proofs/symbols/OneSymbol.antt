@@ -1,5 +1,5 @@
 -- Where the declarations of a name keep clear of each other, those that one environment binds have one symbol.
-use Rattle.std.proofs.Common.{◌≡◌, ℕ, List, [], ◌∷◌, ◌++◌, Option, Some, None, Bool, true, false, inl, inr, cond, map, flat_map, refl, sym, ap, subst, ◌∙◌}
+use Rattle.std.proofs.Common.{◌≡◌, ℕ, List, [], ◌∷◌, ◌++◌, Option, Some, None, Bool, true, false, inl, inr, cond, map, refl, sym, ap, subst, ◌∙◌}
 use Rattle.std.specs.Prelude.{slice_get}
 use Rattle.semantic_kinds.specs.declared.kind.AstType.{AstType}
 use Rattle.semantic_kinds.specs.declared.kind.AstType.TheVariants as kind
@@ -25,8 +25,9 @@ use Rattle.semantic_model.proofs.fold.Declared.{IsDeclaredIn, entering_in}
 use Rattle.semantic_model.proofs.fold.EachDeclared.{EachDeclared, each_on_entering}
 use Rattle.semantic_model.proofs.fold.Orders.{HasForm, table_of, root_body, steps_in}
 use Rattle.semantic_model.proofs.form.Shape.{has_form}
-use Rattle.semantic_model.proofs.lists.Members.{among_left, among_right}
+use Rattle.binding_laws.proofs.ListLaws.{of_map, of_flat, each_at, each_declared}
 use Rattle.binding_laws.proofs.ScopeOpeners.{openers, IsOpened, AllOpened, IsPlaceOpened, targets_opened, places_opened, root_opener, one_scope}
+use Rattle.binding_laws.proofs.SmallLaws.{never}
 use Rattle.language_ties.specs.Bound.{Bound, bound_identifier, bound_by_node, is_bound_as}
 use Rattle.language_ties.specs.EcmaScript.{is_ecmascript_kind, is_ecmascript}
 use Rattle.language_ties.specs.OneSymbol.{IsBoundByNode, HaveOneSymbol, EnvironmentsHaveOneSymbol}
@@ -43,26 +44,6 @@ use Rattle.language_ties.proofs.shared.PlainNodes.{IsPlainPlace, IsEcmaScriptAt,
 use Rattle.language_ties.proofs.symbols.SymbolNumbers.{symbol_is}
 
 -- ---- lists
-
-pub of_map : {A B : Type 0} → (f : A → B) (xs : List A) (x : A) → Among x xs → Among (f x) (map f xs)
-of_map f [] x a = absurd a
-of_map f (y ∷ xs) x (inl e) = inl (ap f e)
-of_map f (y ∷ xs) x (inr a) = inr (of_map f xs x a)
-
-pub of_flat : {A B : Type 0} → (f : A → List B) (xs : List A) (x : A) (y : B) → Among x xs → Among y (f x) → Among y (flat_map f xs)
-of_flat f [] x y a b = absurd a
-of_flat f (z ∷ xs) x y (inl e) b = among_left y (f z) (flat_map f xs) (subst (λ w. Among y (f w)) (sym e) b)
-of_flat f (z ∷ xs) x y (inr a) b = among_right y (f z) (flat_map f xs) (of_flat f xs x y a b)
-
-pub each_at : (P : Step → Type 0) (ss : List Step) (st : Step) → EachStep P ss → Among st ss → P st
-each_at P [] st h a = absurd a
-each_at P (y ∷ ss) st h (inl e) = subst P e h.0
-each_at P (y ∷ ss) st h (inr a) = each_at P ss st h.1 a
-
-pub declared_at : (P : Declaration → Type 0) (ds : List Declaration) (d : Declaration) → EachDeclared P ds → Among d ds → P d
-declared_at P [] d h a = absurd a
-declared_at P (e ∷ ds) d h (inl q) = subst P q h.0
-declared_at P (e ∷ ds) d h (inr a) = declared_at P ds d h.1 a
 
 -- what is bound is told to be declared
 pub told_too : (ds : List Declaration) (bs : List Bound) → map told_by_declaration ds ≡ map told_by_bound bs → (b : Bound) → Among b bs → (d : Declaration) × Among d ds × (told_by_declaration d ≡ told_by_bound b)
@@ -155,9 +136,6 @@ module _ (p : Tree) (h : first_fault p ≡ None) (e : is_ecmascript p ≡ true) 
       let strict : Strict p.source_type c.place = each_at (StrictAt p.source_type) (steps p) (entering c.place) (strict_program p h e) c.entered in
       let stays : StaysInBlock p.source_type c.place.node c.place.path = stays_in_block p.source_type c.place.node c.place.path k t c.no_leaving in
       never (sym z ∙ stays_there p.source_type c.place known strict k stays))
-    where
-      never : true ≡ false → ⊥
-      never i = absurd cc
 
   pub entered_chain : (q : Place) (ss : List Step) → EachStep (IsStepIn (table_of p)) ss → Among (entering q) ss → AllInTable (table_of p) q.chain
   entered_chain q ss k a = each_at (IsStepIn (table_of p)) ss (entering q) k a
@@ -174,14 +152,14 @@ module _ (p : Tree) (h : first_fault p ≡ None) (e : is_ecmascript p ≡ true) 
         among = of_flat declared (events (steps p)) (declares d) d (of_flat (events_of ds) (steps p) (entering q) (declares d) entered event) (inl refl);
         named = named;
         identifier = identifier;
-        visible = declared_at (λ i. is_own_name i ≡ false) (declared_on_entering q) d (entering_visible q.node.kind q plain_place plain_place.node.of_kind) a;
-        opened = declared_at (λ i. IsOpened (openers (steps p)) i.route.target) (declared_on_entering q) d (targets_opened (openers (steps p)) (root_opener p form.root numbered) q opened) a;
+        visible = each_declared (λ i. is_own_name i ≡ false) (declared_on_entering q) d (entering_visible q.node.kind q plain_place plain_place.node.of_kind) a;
+        opened = each_declared (λ i. IsOpened (openers (steps p)) i.route.target) (declared_on_entering q) d (targets_opened (openers (steps p)) (root_opener p form.root numbered) q opened) a;
         maker = maker;
         place = q;
         entered = entered;
         told = a;
-        bodied = declared_at (λ i. IsOwn (table_of p) q.chain i.route.target) (declared_on_entering q) d (entering_own (table_of p) q.node.kind q chain_in) a;
-        entry = (declared_at (IsDeclaredIn (table_of p) (root_body p form)) (declared_on_entering q) d (entering_in (table_of p) (root_body p form) q.node.kind q chain_in) a).target.entry;
+        bodied = each_declared (λ i. IsOwn (table_of p) q.chain i.route.target) (declared_on_entering q) d (entering_own (table_of p) q.node.kind q chain_in) a;
+        entry = (each_declared (IsDeclaredIn (table_of p) (root_body p form)) (declared_on_entering q) d (entering_in (table_of p) (root_body p form) q.node.kind q chain_in) a).target.entry;
       }
 
   pub declaration_of : (b : Bound) → IsBoundByNode p b → b.name ≡ x → (d : DeclarationOf b) × StaysThere b d
@@ -194,9 +172,9 @@ module _ (p : Tree) (h : first_fault p ≡ None) (e : is_ecmascript p ≡ true) 
       each_at (Declares p.source_type) (steps p) (entering q) (declarations_are_bound p h e) c.entered c.no_leaving in
       let empty : declared_on_opening q own ≡ [] = none_inside p.source_type q own b q.node.kind known.ecmascript c.binds c.no_own_name in
       let (d, a, t) = told_too (declared_on_entering q) (bound_by_node q.node.kind p.source_type q.node q.path) (subst (λ os. map told_by_declaration (os ++ declared_on_entering q) ≡ map told_by_bound (bound_by_node q.node.kind p.source_type q.node q.path)) empty told) b c.binds in
-      let stays : placed ds d ≡ d = placed_stays ds d.how d refl (declared_at (λ i. i.how ≡ moved → ⊥) (declared_on_entering q) d (unmoved b c) a) in (
+      let stays : placed ds d ≡ d = placed_stays ds d.how d refl (each_declared (λ i. i.how ≡ moved → ⊥) (declared_on_entering q) d (unmoved b c) a) in (
         declared_there b q c.entered d a stays (ap (λ i. i.name) t ∙ n) (ap (λ i. i.identifier) t) (ap (λ i. i.maker) t),
-        record { binds = c.binds; unmoved = declared_at (λ i. i.how ≡ moved → ⊥) (declared_on_entering q) d (unmoved b c) a },
+        record { binds = c.binds; unmoved = each_declared (λ i. i.how ≡ moved → ⊥) (declared_on_entering q) d (unmoved b c) a },
       )
 
   same_home : (b c : Bound) (d : DeclarationOf b) (f : DeclarationOf c) → b.environment.maker ≡ c.environment.maker → home d.declaration ≡ home f.declaration

@@ -1,7 +1,6 @@
 -- A `var` that passes a clause whose plain parameter has its name is noted with that name, and tangles it.
-use Rattle.std.proofs.Common.{◌≡◌, ℕ, ◌==◌, List, [], ◌∷◌, ◌++◌, None, Bool, true, false, ◌&&◌, ◌||◌, not, cond, map, flat_map, filter, if◌then◌else◌, inl, inr, refl, sym, ap, subst, ◌∙◌, bytes_eq, codes}
-use Rattle.std.proofs.lemmas.Bool.{and_from}
-use Rattle.std.proofs.lemmas.Bool.Decides.{eqb_tells}
+use Rattle.std.proofs.Common.{◌≡◌, ◌==◌, List, [], ◌∷◌, ◌++◌, None, Bool, true, false, ◌&&◌, ◌||◌, not, cond, map, flat_map, filter, if◌then◌else◌, inl, inr, refl, sym, ap, subst, ◌∙◌, bytes_eq, codes}
+use Rattle.std.proofs.lemmas.Bool.{and_from, eq-eqb}
 use Rattle.semantic_kinds.specs.Classes.{holds_kind}
 use Rattle.semantic_kinds.specs.Kinds.{same_kind}
 use Rattle.semantic_kinds.specs.Roles.{same_role}
@@ -23,8 +22,9 @@ use Rattle.semantic_model.specs.Place.{Place}
 use Rattle.semantic_model.specs.Step.{entering, steps}
 use Rattle.semantic_model.proofs.form.Clauses.{kind_is}
 use Rattle.semantic_model.proofs.lists.Members.{among_left, among_right}
-use Rattle.semantic_model.proofs.once.ListedUnder.{name_tells}
 use Rattle.program_laws.proofs.DeclaredNodes.{among_map, among_flat}
+use Rattle.binding_laws.proofs.ListLaws.{among_filter, of_map, of_flat, each_at}
+use Rattle.binding_laws.proofs.SmallLaws.{never, same_names}
 use Rattle.tangle_model.specs.Mention.{Mention, same_declarer, noted_if, identifier_noted, noted_by, noted_at, mentions}
 use Rattle.tangle_model.specs.Repeated.{same_key, is_mention_of, key_of, keys_of, key_stands}
 use Rattle.tangle_model.specs.Surroundings.{home_under, in_catch_under, in_with_under, declarer_in, declarer_under, around_under}
@@ -39,30 +39,14 @@ use Rattle.language_ties.specs.EcmaScript.{is_ecmascript}
 use Rattle.language_ties.specs.Environments.{Environment, made_by, environments, innermost, passed, variable_environment}
 use Rattle.language_ties.specs.declared.bound_as.BoundAs.TheVariants as way
 use Rattle.language_ties.specs.declared.environment_kind.EnvironmentKind.TheVariants as environment
-use Rattle.language_ties.proofs.agree.FamiliarPlaces.{IsFamiliar, FamiliarAt, familiar_program}
+use Rattle.language_ties.proofs.agree.FamiliarPlaces.{IsFamiliar, familiar_at}
 use Rattle.language_ties.proofs.agree.KnownNodes.{node_at}
 use Rattle.language_ties.proofs.agree.PlainBounds.{IsBoundAt, bound_at_place}
 use Rattle.language_ties.proofs.caught.CaughtNames.{catch_environment, catch_kind}
 use Rattle.language_ties.proofs.caught.InClauses.{IsInClause, in_clause}
-use Rattle.language_ties.proofs.symbols.OneSymbol.{of_map, of_flat, each_at}
 use Rattle.language_ties.proofs.tangled.NamePlaces.{is_inner_pattern, holds_names, Reaches, IsNamePlace, names_below, IsAmidSteps, AmidAt, amid_program, NamesStandAt, stand_program}
 use Rattle.language_ties.proofs.tangled.PassedClauses.{IsHeldBy, held_by}
 use Rattle.language_ties.proofs.tangled.Untangled.{NoneButWith, any_of, holds_not}
-
-never : true ≡ false → ⊥
-never h = absurd cc
-
--- ---- lists
-
-among_filter : {A : Type 0} → (test : A → Bool) (xs : List A) (x : A) → Among x xs → test x ≡ true → Among x (filter test xs)
-among_filter test [] x a t = absurd a
-among_filter test (y ∷ xs) x a t = go (test y) refl a (λ b. among_filter test xs x b t)
-  where
-    go : (b : Bool) → test y ≡ b → Among x (y ∷ xs) → (Among x xs → Among x (filter test xs)) → Among x (cond b (y ∷ filter test xs) (filter test xs))
-    go true e (inl q) later = inl q
-    go true e (inr i) later = inr (later i)
-    go false e (inl q) later = absurd (never (sym (subst (λ z. test z ≡ true) (sym q) t) ∙ e))
-    go false e (inr i) later = later i
 
 -- ---- what stands round an identifier of a pattern
 
@@ -194,9 +178,6 @@ in_below (tree r k span text marks below id after) m n a b = go (same_role r rol
 -- ---- what is noted
 
 module _ (p : Tree) (h : first_fault p ≡ None) (e : is_ecmascript p ≡ true) (numbered : IsNumbered p.root) where
-  familiar_at : (q : Place) → Among (entering q) (steps p) → IsFamiliar (node_at p) q
-  familiar_at q a = each_at (FamiliarAt (node_at p)) (steps p) (entering q) (familiar_program p h e numbered) a
-
   -- an identifier below a place that holds names
   pub name_place : (q : Place) → Among (entering q) (steps p) → holds_names q.node.kind ≡ true → (i : Node) → Among i (bound_below q.node.kind q.node.children) → IsNamePlace (steps p) (q.node ∷ q.path) i
   name_place q a k i b =
@@ -243,17 +224,11 @@ module _ (p : Tree) (h : first_fault p ≡ None) (e : is_ecmascript p ≡ true) 
     variable_noted k a d w = identifier_at z k (as_variable z)
         (among_left (as_variable z) (first ++ second ++ third) fourth (among_right (as_variable z) (first ++ second) third (noted_true (same_declarer (declarer_under z.path) declarer.Var && in_catch_under z.path) (as_variable z) (and_from (same_declarer (declarer_under z.path) declarer.Var) (in_catch_under z.path) (ap (λ i. same_declarer i declarer.Var) d) w)))) a
 
-  same_names : (a b : Name) → a ≡ b → bytes_eq a b ≡ true
-  same_names a b w = elim (name_tells a b) [ inl i ↦ i.0 | inr i ↦ absurd (i.1 w) ]
-
-  same_numbers : (a b : ℕ) → a ≡ b → (a == b) ≡ true
-  same_numbers a b w = elim (eqb_tells a b) [ inl i ↦ i.0 | inr i ↦ absurd (i.1 w) ]
-
   -- both with one home tangle the name
   met : (name : Name) (y z : Place) → Among (as_variable y) (mentions p) → Among (as_name z) (mentions p) → y.node.text ≡ name → z.node.text ≡ name → home_under y.path ≡ home_under z.path → any_mention (meets_catch_name (mentions p)) (mentions p) name ≡ true
   met name y z a b n m w =
       let key : Among (key_of (as_name z)) (keys_of what.CatchName (mentions p)) = of_map key_of (filter (is_mention_of what.CatchName) (mentions p)) (as_name z) (among_filter (is_mention_of what.CatchName) (mentions p) (as_name z) b refl) in
-      let same : same_key (key_of (as_variable y)) (key_of (as_name z)) ≡ true = and_from (bytes_eq y.node.text z.node.text) (home_under y.path == home_under z.path) (same_names y.node.text z.node.text (n ∙ sym m)) (same_numbers (home_under y.path) (home_under z.path) w) in
+      let same : same_key (key_of (as_variable y)) (key_of (as_name z)) ≡ true = and_from (bytes_eq y.node.text z.node.text) (home_under y.path == home_under z.path) (same_names y.node.text z.node.text (n ∙ sym m)) (eq-eqb (home_under y.path) (home_under z.path) w) in
       let there : key_stands (key_of (as_variable y)) (keys_of what.CatchName (mentions p)) ≡ true = any_of (same_key (key_of (as_variable y))) (keys_of what.CatchName (mentions p)) (key_of (as_name z)) key same in
       any_of (λ i. meets_catch_name (mentions p) i && bytes_eq name i.name) (mentions p) (as_variable y) a (and_from (meets_catch_name (mentions p) (as_variable y)) (bytes_eq name y.node.text) there (same_names name y.node.text (sym n)))
 
@@ -286,7 +261,7 @@ module _ (p : Tree) (h : first_fault p ≡ None) (e : is_ecmascript p ≡ true) 
 
     held : IsHeldBy p numbered clause.clause clause.entered at_variable.place.path
     held =
-        let familiar : IsFamiliar (node_at p) at_variable.place = familiar_at at_variable.place at_variable.entered in
+        let familiar : IsFamiliar (node_at p) at_variable.place = familiar_at p h e numbered at_variable.place at_variable.entered in
         held_by p numbered clause.clause clause.entered at_variable.place.node at_variable.place.path familiar.path familiar.parents (each_at (AmidAt (steps p)) (steps p) (entering at_variable.place) (amid_program p) at_variable.entered).above clause.known
         (subst (λ d. Among d (passed (environments at_variable.place.node at_variable.place.path))) environment_is (subst (λ z. Among b.environment z.passed) declarator.1.is_it passes))
 

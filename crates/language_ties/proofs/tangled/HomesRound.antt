@@ -10,6 +10,7 @@ use Rattle.semantic_tree.specs.declared.node.Node.{Node}
 use Rattle.semantic_model.specs.Binder.{is_statement}
 use Rattle.semantic_model.specs.Entries.{Among}
 use Rattle.semantic_model.specs.Step.{Step}
+use Rattle.binding_laws.proofs.SmallLaws.{never}
 use Rattle.tangle_model.specs.Surroundings.{is_home, home_under}
 use Rattle.language_ties.specs.EcmaScript.{is_ecmascript_kind}
 use Rattle.language_ties.specs.Environments.{Environment, is_made_for, has_parameter_expressions, is_outside_body, is_body_of_with, made_by, environments, innermost, takes_variables, passed, first_taking}
@@ -17,9 +18,6 @@ use Rattle.language_ties.specs.declared.environment_kind.EnvironmentKind.{Enviro
 use Rattle.language_ties.specs.declared.environment_kind.EnvironmentKind.TheVariants as environment
 use Rattle.language_ties.proofs.agree.FamiliarPlaces.{ParentsFit}
 use Rattle.language_ties.proofs.tangled.NamePlaces.{IsEnteredAs, AllEnteredAs}
-
-never : true ≡ false → ⊥
-never h = absurd cc
 
 -- ---- the environments up to the first that takes variables
 

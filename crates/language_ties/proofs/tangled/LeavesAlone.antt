@@ -1,6 +1,6 @@
 -- Of a name that isn't tangled, a function that leaves its block goes alone: what else is bound on its way would be noted at its home.
 use Rattle.std.proofs.Common.{◌≡◌, ℕ, ◌==◌, List, [], ◌∷◌, ◌++◌, None, Bool, true, false, ◌&&◌, ◌||◌, cond, map, flat_map, filter, inl, inr, ◌⊎◌, refl, sym, ap, subst, ◌∙◌, bytes_eq}
-use Rattle.std.proofs.lemmas.Bool.{and_from}
+use Rattle.std.proofs.lemmas.Bool.{and_from, eq-eqb}
 use Rattle.std.proofs.lemmas.Bool.Decides.{eqb_tells}
 use Rattle.semantic_kinds.specs.declared.kind.AstType.TheVariants as kind
 use Rattle.semantic_kinds.specs.declared.role.Role.TheVariants as role
@@ -13,9 +13,10 @@ use Rattle.semantic_model.proofs.lists.Members.{among_left}
 use Rattle.semantic_model.specs.Names.{names_at}
 use Rattle.semantic_model.specs.Place.{Place}
 use Rattle.semantic_model.specs.Step.{Step, entering, steps}
-use Rattle.semantic_model.proofs.once.ListedUnder.{name_tells}
 use Rattle.program_laws.proofs.DeclaredNodes.{among_map}
 use Rattle.binding_laws.proofs.EnteredOnce.{entered_once}
+use Rattle.binding_laws.proofs.ListLaws.{among_filter, of_map, of_flat, each_at, same_of_one}
+use Rattle.binding_laws.proofs.SmallLaws.{never, same_names}
 use Rattle.tangle_model.specs.Mention.{Mention, noted_if, function_noted, is_block_function, noted_at, mentions}
 use Rattle.tangle_model.specs.Repeated.{Key, same_key, is_mention_of, key_of, keys_of, key_stands, repeats}
 use Rattle.tangle_model.specs.Surroundings.{home_under, around_under}
@@ -34,13 +35,9 @@ use Rattle.language_ties.proofs.agree.MadeEnvironments.{EndsAtProgram}
 use Rattle.language_ties.proofs.agree.PlainBounds.{IsBoundAt, bound_at_place}
 use Rattle.language_ties.proofs.moved.LeavingFunctions.{LeavesAt}
 use Rattle.language_ties.proofs.own_names.OwnIds.{named_once}
-use Rattle.language_ties.proofs.symbols.OneSymbol.{of_map, of_flat, each_at}
 use Rattle.language_ties.proofs.tangled.HomesRound.{IsMadeInHome, InHome}
-use Rattle.language_ties.proofs.tangled.NotedNames.{IsNoted, is_noted, declaration_ways, function_noted_there, same_of_one}
+use Rattle.language_ties.proofs.tangled.NotedNames.{IsNoted, is_noted, declaration_ways, function_noted_there}
 use Rattle.language_ties.proofs.tangled.Untangled.{NoneButWith, any_of, holds_not}
-
-never : true ≡ false → ⊥
-never h = absurd cc
 
 -- ---- keys that stand twice
 
@@ -111,22 +108,6 @@ module _ (k : Key) where
     twice (y ∷ ss) s t (inr a) (inl r) n g h = subst (λ ks. repeats k ks ≡ true) (sym (keys_append (f y) (flat_map f ss))) (repeats_both (keys_of what.Declaration (f y)) (keys_of what.Declaration (flat_map f ss)) (subst Stands (sym r) h) (stands_flat ss s a g))
     twice (y ∷ ss) s t (inr a) (inr b) n g h = subst (λ ks. repeats k ks ≡ true) (sym (keys_append (f y) (flat_map f ss))) (repeats_right (keys_of what.Declaration (f y)) (keys_of what.Declaration (flat_map f ss)) (twice ss s t a b n g h))
 
-among_filter : {A : Type 0} → (test : A → Bool) (xs : List A) (x : A) → Among x xs → test x ≡ true → Among x (filter test xs)
-among_filter test [] x a t = absurd a
-among_filter test (y ∷ xs) x a t = go (test y) refl a (λ b. among_filter test xs x b t)
-  where
-    go : (b : Bool) → test y ≡ b → Among x (y ∷ xs) → (Among x xs → Among x (filter test xs)) → Among x (cond b (y ∷ filter test xs) (filter test xs))
-    go true e (inl q) later = inl q
-    go true e (inr i) later = inr (later i)
-    go false e (inl q) later = absurd (never (sym (subst (λ z. test z ≡ true) (sym q) t) ∙ e))
-    go false e (inr i) later = later i
-
-same_names : (a b : Name) → a ≡ b → bytes_eq a b ≡ true
-same_names a b w = elim (name_tells a b) [ inl i ↦ i.0 | inr i ↦ absurd (i.1 w) ]
-
-same_numbers : (a b : ℕ) → a ≡ b → (a == b) ≡ true
-same_numbers a b w = elim (eqb_tells a b) [ inl i ↦ i.0 | inr i ↦ absurd (i.1 w) ]
-
 -- ---- the function
 
 module _ (p : Tree) (h : first_fault p ≡ None) (e : is_ecmascript p ≡ true) (numbered : IsNumbered p.root) (name : Name) (untangled : NoneButWith p name) where
@@ -141,7 +122,7 @@ module _ (p : Tree) (h : first_fault p ≡ None) (e : is_ecmascript p ≡ true) 
   stands_noted home other ms w a =
       any_of (same_key (record { name = name; home = home })) (keys_of what.Declaration ms) (record { name = other; home = home })
       (of_map key_of (filter (is_mention_of what.Declaration) ms) (record { what = what.Declaration; home = home; name = other }) (among_filter (is_mention_of what.Declaration) ms (record { what = what.Declaration; home = home; name = other }) a refl))
-      (and_from (bytes_eq name other) (home == home) (same_names name other (sym w)) (same_numbers home home refl))
+      (and_from (bytes_eq name other) (home == home) (same_names name other (sym w)) (eq-eqb home home refl))
 
   module _ (b : Bound) (b_named : b.name ≡ name) (r : Place) (entered : Among (entering r) (steps p)) (l : LeavesAt p.source_type r b) (blocked : is_block_function (around_under p.source_type r.path) r.node ≡ true) where
     familiar : IsFamiliar (node_at p) r

@@ -30,11 +30,9 @@ use Rattle.semantic_model.proofs.steps.EachStep.{each_of_node, each_of_turn}
 use Rattle.semantic_model.proofs.steps.Turn.{Turn, turn_at}
 use Rattle.semantic_model.proofs.steps.TurnCases.{opening_case, ending_case, last_case}
 use Rattle.walk_model.proofs.places.Shapes.{holds_below, tree_holds, is_only, only_holds}
-use Rattle.language_ties.proofs.symbols.OneSymbol.{each_at}
+use Rattle.binding_laws.proofs.ListLaws.{each_at}
+use Rattle.binding_laws.proofs.SmallLaws.{never}
 use Rattle.language_ties.proofs.tangled.NamePlaces.{IsAmidSteps, AmidAt, amid_program}
-
-never : true ≡ false → ⊥
-never h = absurd cc
 
 -- ---- the shape
 

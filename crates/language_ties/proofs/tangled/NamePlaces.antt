@@ -29,9 +29,7 @@ use Rattle.semantic_model.proofs.steps.EachStep.{each_of_node, each_of_turn}
 use Rattle.semantic_model.proofs.steps.Turn.{Turn, turn_at}
 use Rattle.semantic_model.proofs.steps.TurnCases.{opening_case, ending_case, last_case}
 use Rattle.walk_model.proofs.places.Shapes.{holds_below, tree_holds, only_is}
-
-never : true ≡ false → ⊥
-never h = absurd cc
+use Rattle.binding_laws.proofs.SmallLaws.{never}
 
 -- ---- the shape
 

@@ -22,6 +22,7 @@ use Rattle.semantic_model.proofs.form.Clauses.{kind_is}
 use Rattle.semantic_model.proofs.lists.Members.{among_left, among_cases}
 use Rattle.program_laws.proofs.DeclaredNodes.{among_map, among_flat}
 use Rattle.walk_model.proofs.once.NamesInRole.{AtMostOne}
+use Rattle.binding_laws.proofs.ListLaws.{each_at, same_of_one}
 use Rattle.tangle_model.specs.Mention.{Mention, same_declarer, noted_if, identifier_noted, function_noted, named_noted, noted_by, noted_at}
 use Rattle.tangle_model.specs.Surroundings.{is_home, home_under, declarer_in, declarer_under, around_under}
 use Rattle.tangle_model.specs.declared.around.Declarer.TheVariants as declarer
@@ -40,14 +41,10 @@ use Rattle.language_ties.proofs.agree.KnownNodes.{node_at}
 use Rattle.language_ties.proofs.agree.MadeEnvironments.{EndsAtProgram, innermost_among}
 use Rattle.language_ties.proofs.clear.PassedScopes.{takes_some}
 use Rattle.language_ties.proofs.own_names.OwnIds.{named_once}
-use Rattle.language_ties.proofs.symbols.OneSymbol.{each_at}
 use Rattle.language_ties.proofs.tangled.CaughtVariables.{in_below, reached_declarer, reached_home, name_place}
 use Rattle.language_ties.proofs.tangled.HomesRound.{reach, passed_reached, taking_reached, innermost_reached, InHome, in_home}
 use Rattle.language_ties.proofs.tangled.NameChildren.{has_name_in, IsRoleChild, name_child, NamedAt, named_program}
 use Rattle.language_ties.proofs.tangled.NamePlaces.{holds_names, Reaches, IsNamePlace, IsAmidSteps, AmidAt, amid_program}
-
-never : true ≡ false → ⊥
-never h = absurd cc
 
 -- where a name is noted, with the home of the environments on its way: at a function, or at an identifier
 pub record IsNoted (p : Tree) (q : Place) (b : Bound) : Type 0 where
@@ -57,14 +54,6 @@ pub record IsNoted (p : Tree) (q : Place) (b : Bound) : Type 0 where
   pub noted : Among (record { what = what.Declaration; home = home; name = b.name }) (noted_at p.source_type (entering place))
   pub ways : (d : Environment) → Among d (crossed b) → InHome (steps p) home q.node d
   pub sort : ((place ≡ q) × (q.node.kind ≡ kind.Function)) ⊎ (place.node.kind ≡ kind.BindingIdentifier)
-
--- two of at most one are the same
-pub same_of_one : (ns : List Node) (n m : Node) → AtMostOne ns → Among n ns → Among m ns → n ≡ m
-same_of_one [] n m o a b = absurd a
-same_of_one (y ∷ []) n m o (inl i) (inl j) = sym i ∙ j
-same_of_one (y ∷ []) n m o (inl i) (inr b) = absurd b
-same_of_one (y ∷ []) n m o (inr a) b = absurd a
-same_of_one (y ∷ z ∷ ns) n m o a b = absurd o
 
 -- the node is no home, or the name is a function's own
 no_home : (k : AstType) (x : Node) → x.kind ≡ k → holds_kind (kind.Program ∷ kind.Function ∷ kind.ArrowFunctionExpression ∷ kind.StaticBlock ∷ kind.TSModuleBlock ∷ []) k ≡ false → is_home x ≡ false

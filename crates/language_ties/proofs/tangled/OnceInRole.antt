@@ -15,10 +15,8 @@ use Rattle.semantic_tree.specs.declared.node.Node.{Node}
 use Rattle.semantic_tree.proofs.FitLaws.{lead_in_role}
 use Rattle.semantic_model.proofs.form.Clauses.{role_is}
 use Rattle.walk_model.proofs.once.NamesInRole.{AtMostOne}
+use Rattle.binding_laws.proofs.SmallLaws.{never}
 use Rattle.language_ties.proofs.own_names.OwnIds.{nodes_append, none_of_parts, is_at_most}
-
-never : true ≡ false → ⊥
-never h = absurd cc
 
 abbrev is_single : Count → Bool
 is_single count.One = true

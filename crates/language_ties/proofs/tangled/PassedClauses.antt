@@ -13,6 +13,7 @@ use Rattle.semantic_model.specs.Entries.{Among}
 use Rattle.semantic_model.specs.Place.{Place}
 use Rattle.semantic_model.specs.Step.{entering, steps}
 use Rattle.binding_laws.proofs.EnteredOnce.{entered_once}
+use Rattle.binding_laws.proofs.SmallLaws.{never}
 use Rattle.tangle_model.specs.Surroundings.{is_home, home_under, in_catch_under}
 use Rattle.language_ties.specs.EcmaScript.{is_ecmascript_kind}
 use Rattle.language_ties.specs.Environments.{Environment, has_parameter_expressions, is_outside_body, is_body_of_with, made_by, environments, passed, takes_variables}
@@ -21,12 +22,6 @@ use Rattle.language_ties.specs.declared.environment_kind.EnvironmentKind.TheVari
 use Rattle.language_ties.proofs.agree.FamiliarPlaces.{ParentsFit, AllKnown}
 use Rattle.language_ties.proofs.agree.KnownNodes.{node_at}
 use Rattle.language_ties.proofs.tangled.NamePlaces.{IsEnteredAs, AllEnteredAs}
-
-never : true ≡ false → ⊥
-never h = absurd cc
-
-some_is : {A : Type 0} (x y : A) → Some x ≡ Some y → x ≡ y
-some_is x y h = cc
 
 module _ (p : Tree) (numbered : IsNumbered p.root) (clause : Place) (entered : Among (entering clause) (steps p)) where
   abbrev Clause : Environment

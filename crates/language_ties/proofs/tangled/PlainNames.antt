@@ -1,6 +1,6 @@
 -- A name that isn't tangled, of which no function is misplaced, is a plain name.
 use Rattle.std.proofs.Common.{◌≡◌, List, [], ◌∷◌, None, Bool, true, false, ◌&&◌, ◌||◌, not, cond, map, flat_map, inl, inr, ◌⊎◌, refl, sym, ap, subst, ◌∙◌, bytes_eq, codes}
-use Rattle.std.proofs.lemmas.Bool.{cases_Bool, and_from, not-true}
+use Rattle.std.proofs.lemmas.Bool.{cases_Bool, and_from, not-true, or_parts}
 use Rattle.semantic_syntax.proofs.Truth.{and_first, and_second}
 use Rattle.semantic_kinds.specs.declared.kind.AstType.{AstType}
 use Rattle.semantic_kinds.specs.declared.kind.AstType.TheVariants as kind
@@ -18,6 +18,8 @@ use Rattle.semantic_model.specs.Place.{Place}
 use Rattle.semantic_model.specs.Step.{entering, steps}
 use Rattle.semantic_model.proofs.once.ListedUnder.{name_tells}
 use Rattle.program_laws.proofs.DeclaredNodes.{among_map, among_flat}
+use Rattle.binding_laws.proofs.ListLaws.{each_at}
+use Rattle.binding_laws.proofs.SmallLaws.{never}
 use Rattle.tangle_model.specs.Mention as tangle
 use Rattle.tangle_model.specs.Surroundings.{in_block_under, is_strict_under, around_under}
 use Rattle.language_ties.specs.AgreeingNames.{has_none, is_declared_plainly, is_plain, leaves_block, IsAlone, IsPlainName}
@@ -34,15 +36,11 @@ use Rattle.language_ties.proofs.agree.PlainBounds.{IsBoundAt, bound_at_place}
 use Rattle.language_ties.proofs.moved.LeavingFunctions.{LeavesAt, leaves_at}
 use Rattle.language_ties.proofs.moved.Settled.{leaves_function}
 use Rattle.language_ties.proofs.own_names.ClasslessNames.{no_class_environment}
-use Rattle.language_ties.proofs.symbols.OneSymbol.{each_at}
 use Rattle.language_ties.proofs.tangled.CaughtVariables.{passes_not}
 use Rattle.language_ties.proofs.tangled.LeavesAlone.{goes_alone}
 use Rattle.language_ties.proofs.tangled.NamePlaces.{IsAmidSteps, AmidAt, amid_program}
 use Rattle.language_ties.proofs.tangled.StrictUnder.{not_strict_under}
 use Rattle.language_ties.proofs.tangled.Untangled.{NoneButWith, any_of}
-
-never : true ≡ false → ⊥
-never h = absurd cc
 
 -- ---- what leaves no block is bound by one environment alone, or as a class
 
@@ -111,10 +109,6 @@ module _ (p : Tree) (h : first_fault p ≡ None) (e : is_ecmascript p ≡ true) 
         absurd (never (sym (any_of (misplaced_at p.source_type name) (steps p) (entering q) a here) ∙ well_placed)))
   ]
 
-  or_false : (a b : Bool) → (a || b) ≡ false → (a ≡ false) × (b ≡ false)
-  or_false true b w = absurd (never w)
-  or_false false b w = (refl, w)
-
   -- a function that leaves its block is noted as such
   noted_as_block : (q : Place) → Among (entering q) (steps p) → (b : Bound) → Among b (bound_by_node q.node.kind p.source_type q.node q.path) → b.name ≡ name → leaves_block b ≡ true → LeavesAt p.source_type q b → tangle.is_block_function (around_under p.source_type q.path) q.node ≡ true
   noted_as_block q a b i n leaves l =
@@ -125,7 +119,7 @@ module _ (p : Tree) (h : first_fault p ≡ None) (e : is_ecmascript p ≡ true) 
       let strict : language.is_strict p.source_type q.path ≡ false = not-true (language.is_strict p.source_type q.path) (and_second (not (takes_variables (innermost (environments q.node q.path))) && not (is_special q.node)) (not (language.is_strict p.source_type q.path)) l.ours) in
       let sloppy : is_strict_under p.source_type q.path ≡ false = not_strict_under p h e numbered q.path familiar.path amid.above strict in
       let either : ((leaves_block b && not (in_block_under q.path)) || (not (leaves_block b) && is_made_for environment.IfBody b.environment)) ≡ false = subst (λ t. (t && ((leaves_block b && not (in_block_under q.path)) || (not (leaves_block b) && is_made_for environment.IfBody b.environment))) ≡ false) (leaves_function b leaves) (stands_well q a b i n) in
-      let outside : not (in_block_under q.path) ≡ false = subst (λ t. (t && not (in_block_under q.path)) ≡ false) leaves (or_false (leaves_block b && not (in_block_under q.path)) (not (leaves_block b) && is_made_for environment.IfBody b.environment) either).0 in
+      let outside : not (in_block_under q.path) ≡ false = subst (λ t. (t && not (in_block_under q.path)) ≡ false) leaves (or_parts (leaves_block b && not (in_block_under q.path)) (not (leaves_block b) && is_made_for environment.IfBody b.environment) either).0 in
       rw (inside (in_block_under q.path) outside, sloppy, special) refl
     where
       inside : (t : Bool) → not t ≡ false → t ≡ true
@@ -137,7 +131,7 @@ module _ (p : Tree) (h : first_fault p ≡ None) (e : is_ecmascript p ≡ true) 
   no_if_body q a b i n stays = elim (cases_Bool (is_bound_as bound.Function b)) [
     | inr f ↦ ap (λ t. t && is_made_for environment.IfBody b.environment) f
     | inl f ↦ (let either : ((leaves_block b && not (in_block_under q.path)) || (not (leaves_block b) && is_made_for environment.IfBody b.environment)) ≡ false = subst (λ t. (t && ((leaves_block b && not (in_block_under q.path)) || (not (leaves_block b) && is_made_for environment.IfBody b.environment))) ≡ false) f (stands_well q a b i n) in
-        let body : is_made_for environment.IfBody b.environment ≡ false = subst (λ t. (not t && is_made_for environment.IfBody b.environment) ≡ false) stays (or_false (leaves_block b && not (in_block_under q.path)) (not (leaves_block b) && is_made_for environment.IfBody b.environment) either).1 in
+        let body : is_made_for environment.IfBody b.environment ≡ false = subst (λ t. (not t && is_made_for environment.IfBody b.environment) ≡ false) stays (or_parts (leaves_block b && not (in_block_under q.path)) (not (leaves_block b) && is_made_for environment.IfBody b.environment) either).1 in
         ap (λ t. t && is_made_for environment.IfBody b.environment) f ∙ body)
   ]
 

@@ -32,6 +32,8 @@ use Rattle.semantic_model.proofs.steps.Turn.{Turn, turn_at}
 use Rattle.semantic_model.proofs.steps.TurnCases.{opening_case, ending_case, last_case}
 use Rattle.walk_model.proofs.once.NamesInRole.{AtMostOne}
 use Rattle.walk_model.proofs.places.Shapes.{holds_below, tree_holds}
+use Rattle.binding_laws.proofs.ListLaws.{each_at, same_of_one}
+use Rattle.binding_laws.proofs.SmallLaws.{never, either}
 use Rattle.tangle_model.specs.Surroundings as tangle
 use Rattle.tangle_model.specs.Surroundings.{is_strict_under}
 use Rattle.language_ties.specs.Bound as language
@@ -41,13 +43,8 @@ use Rattle.language_ties.proofs.agree.KnownNodes.{node_at}
 use Rattle.language_ties.proofs.agree.MadeEnvironments.{EndsAtProgram}
 use Rattle.language_ties.proofs.caught.CalmPlaces.{IsChild, QuietAt, quiet_program}
 use Rattle.language_ties.proofs.own_names.OwnIds.{fit_at}
-use Rattle.language_ties.proofs.symbols.OneSymbol.{each_at}
 use Rattle.language_ties.proofs.tangled.NamePlaces.{IsEnteredAs, AllEnteredAs}
-use Rattle.language_ties.proofs.tangled.NotedNames.{same_of_one}
 use Rattle.language_ties.proofs.tangled.OnceInRole.{has_single, once_in_role}
-
-never : true ≡ false → ⊥
-never h = absurd cc
 
 -- ---- the shape
 
@@ -168,10 +165,6 @@ module _ (p : Tree) (h : first_fault p ≡ None) (e : is_ecmascript p ≡ true) 
     strict_here : (AllKnown (node_at p) path) → tangle.makes_strict x ≡ true → (language.makes_strict x || language.is_strict s path) ≡ true
     strict_here known w = go path refl (either (is kind.ClassBody x) (holds_kind (kind.Program ∷ kind.FunctionBody ∷ kind.TSModuleBlock ∷ []) x.kind && has_use_strict x) w)
       where
-        either : (a b : Bool) → (a || b) ≡ true → (a ≡ true) ⊎ (b ≡ true)
-        either true b v = inl refl
-        either false b v = inr v
-
         no_program : (k : AstType) → (k ≡ kind.Program → ⊥) → x.kind ≡ k → path ≡ [] → ⊥
         no_program k n v u = n (sym v ∙ rooted u)
 

@@ -1,18 +1,20 @@
 -- What it gives that a name has no reason to be tangled.
-use Rattle.std.proofs.Common.{◌≡◌, ℕ, List, [], ◌∷◌, ◌++◌, Bool, true, false, ◌&&◌, ◌||◌, cond, filter, flat_map, inl, inr, refl, sym, ap, subst, ◌∙◌, bytes_eq, codes}
+use Rattle.std.proofs.Common.{◌≡◌, List, [], ◌∷◌, Bool, true, false, ◌&&◌, ◌||◌, cond, filter, inl, inr, refl, sym, subst, ◌∙◌, bytes_eq, codes}
 use Rattle.std.specs.List.{list_any}
-use Rattle.std.proofs.lemmas.Bool.{cases_Bool, and_from}
+use Rattle.std.proofs.lemmas.Bool.{cases_Bool}
 use Rattle.semantic_kinds.specs.declared.kind.AstType.TheVariants as kind
 use Rattle.semantic_syntax.specs.Tables.{Name}
 use Rattle.semantic_tree.specs.Tree.{Tree}
 use Rattle.semantic_tree.specs.Views.{is}
 use Rattle.semantic_model.specs.Entries.{Among}
 use Rattle.semantic_model.specs.Place.{Place}
-use Rattle.semantic_model.specs.Step.{Step, entering, steps}
+use Rattle.semantic_model.specs.Step.{entering, steps}
 use Rattle.semantic_model.specs.TablesOf.{tables_of}
 use Rattle.semantic_model.proofs.form.Clauses.{kind_is}
 use Rattle.semantic_model.proofs.lists.Members.{among_left}
 use Rattle.semantic_model.proofs.once.ListedUnder.{name_tells}
+use Rattle.binding_laws.proofs.ListLaws.{filtered_out, of_flat}
+use Rattle.binding_laws.proofs.SmallLaws.{never, not_empty}
 use Rattle.tangle_model.specs.Mention.{Mention, noted_if, noted_by, noted_at, mentions}
 use Rattle.tangle_model.specs.Surroundings.{in_with_under, home_under, around_under}
 use Rattle.tangle_model.specs.Tangled.{is_in_with, any_mention, holds_in, all_reasons, tangle_reasons}
@@ -20,23 +22,6 @@ use Rattle.tangle_model.specs.declared.reason.Reason.{Reason}
 use Rattle.tangle_model.specs.declared.reason.Reason.TheVariants as reason
 use Rattle.tangle_model.specs.declared.what.What.TheVariants as what
 use Rattle.language_ties.specs.AgreeingNames.{IsReadOutsideWith}
-use Rattle.language_ties.proofs.symbols.OneSymbol.{of_flat}
-
-never : true ≡ false → ⊥
-never h = absurd cc
-
-not_empty : {A : Type 0} → (z : A) (zs : List A) → z ∷ zs ≡ [] → ⊥
-not_empty z zs i = absurd cc
-
--- what a filter drops doesn't pass
-filtered_out : {A : Type 0} → (test : A → Bool) (xs : List A) (x : A) → filter test xs ≡ [] → Among x xs → test x ≡ false
-filtered_out test [] x h a = absurd a
-filtered_out test (y ∷ xs) x h a = go (test y) refl h a (filtered_out test xs x)
-  where
-    go : (b : Bool) → test y ≡ b → cond b (y ∷ filter test xs) (filter test xs) ≡ [] → Among x (y ∷ xs) → (filter test xs ≡ [] → Among x xs → test x ≡ false) → test x ≡ false
-    go true e i j later = absurd (not_empty y (filter test xs) i)
-    go false e i (inl q) later = subst (λ z. test z ≡ false) q e
-    go false e i (inr j) later = later i j
 
 pub any_of : {A : Type 0} → (test : A → Bool) (xs : List A) (x : A) → Among x xs → test x ≡ true → list_any test xs ≡ true
 any_of test [] x a h = absurd a

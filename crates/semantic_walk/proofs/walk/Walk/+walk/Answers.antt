@@ -17,7 +17,7 @@ use Rattle.walk_model.specs.WalkState.{WalkState}
 use Rattle.walk_model.specs.Walks.{after_all}
 use Rattle.semantic_walk.specs.Walker.{Walker}
 use Rattle.semantic_walk.specs.AtPlace.{IsComing, IsEntered, IsSomewhere, HasEntered, walked_over, probes_over}
-use Rattle.node_rules.specs.EvenKinds.{acts_between}
+use Rattle.semantic_walk.specs.Doings.{acts_between}
 use Rattle.semantic_walk.specs.Turns.{is_passed, past_leaf}
 use Rattle.semantic_walk.specs.Leaving.{IsFit, IsLeaving}
 use Rattle.semantic_walk.specs.declared.visit.Turn.{Turn}

@@ -1,5 +1,5 @@
 use Rattle.std.proofs.Common.{◌≡◌, [], ◌∷◌, ◌++◌, false, length, sym, ap, ◌∙◌, arith}
-use Rattle.node_rules.specs.EvenKinds.{acts_on_entering}
+use Rattle.semantic_walk.specs.Doings.{acts_on_entering}
 use Rattle.semantic_walk.specs.Walker.{Walker}
 use Rattle.semantic_walk.proofs.RoomAt.{ids_kept}
 use Rattle.semantic_walk.proofs.EnterSteps.{enters_quietly}
