@@ -1,12 +1,11 @@
 'use strict';
 // Where it shows that the tables of a name may part from the language, for each reason that the proved program has for that, by one pass
 // over the rows and one over the tables; and by these places alone which names are tangled, for a page, which runs no program.
-// Two kinds come besides, which the program doesn't list: the names of typescript-corners.js, and `__proto__`, of which no tie parts, but a
-// property of that name is none where it is written out.
+// `__proto__` comes besides, which the program doesn't list: no tie of it parts, but a property of that name is none where it is written out.
 
 const { DEPTH, END, KIND, ROLE, START, TEXT, endsOf, parentsOf } = require('../edits/rows.js');
 const { eachDeclaration } = require('./declarations.js');
-const { CORNERS, isTypeScript, tangledInCorners } = require('./typescript-corners.js');
+const { sharedNames, typescriptPlaces } = require('./typescript-places.js');
 
 // Why names are tangled, by the word that the program has for it, with the section of ECMAScript.
 const REASONS = {
@@ -18,11 +17,15 @@ const REASONS = {
   FreeNamesake: 'TypeScript may tie this use to a declaration of the file, which the analysis leaves undeclared',
   MergedMember: 'it is declared in one of several namespaces or enums that are merged',
   NamespaceNamesake: 'a namespace and another declaration share the name, and TypeScript may mean either in a qualified name',
+  InferredName: 'TypeScript sees what `infer` declares in the true part of its conditional type alone',
+  HiddenParameter: 'TypeScript sees no parameter in the type parameters of its function',
+  IndexParameter: 'TypeScript means the parameter of the index signature around this use',
+  SloppyFunction: 'TypeScript may take this function out of its block, and another declaration shares its name',
+  ExportedType: 'TypeScript may export another declaration of the name as a type here',
 };
 
-// Why others are kept like these, though the program doesn't list them.
+// Why another is kept like these, though the program doesn't list it.
 const UNLISTED = {
-  ...CORNERS,
   Proto: 'in an object, `__proto__` sets the prototype or not by how it is written (ECMAScript 13.2.5.5)',
 };
 
@@ -152,15 +155,9 @@ function mergedNames({ rows, parents, ends, report }, note) {
       owners.push({ scope, name });
     }
   }
-  const symbolsOf = new Map();
-  for (const { name } of report.symbols) {
-    symbolsOf.set(name, (symbolsOf.get(name) || 0) + 1);
-  }
   for (const { scope } of owners.filter(({ name }) => blocks.get(name) > 1)) {
     for (const binding of scope.bindings) {
-      if (symbolsOf.get(binding.name) > 1) {
-        note(binding.name, 'MergedMember', report.symbols[binding.symbol].span);
-      }
+      note(binding.name, 'MergedMember', report.symbols[binding.symbol].span);
     }
   }
 }
@@ -177,11 +174,8 @@ function mayBePassed({ flags, scope }) {
 }
 
 function namesakes({ report }, note) {
-  const symbolsOf = new Map();
-  for (const { name } of report.symbols) {
-    symbolsOf.set(name, (symbolsOf.get(name) || 0) + 1);
-  }
-  for (const symbol of report.symbols.filter((one) => symbolsOf.get(one.name) > 1 && mayBePassed(one))) {
+  const shared = sharedNames(report);
+  for (const symbol of report.symbols.filter((one) => shared.has(one.name) && mayBePassed(one))) {
     note(symbol.name, 'NamespaceNamesake', symbol.span);
   }
 }
@@ -216,19 +210,21 @@ class Places {
   }
 }
 
+const isTypeScript = ({ lang }) => lang !== 'js' && lang !== 'jsx';
+
 function placesIn(tree, report) {
   const { rows } = tree;
   const places = new Places();
   const note = places.note.bind(places);
   const parents = parentsOf(rows);
-  const known = { rows, parents, ends: endsOf(rows), report, inWith: scopesInWith(report.scopes) };
+  const known = { rows, parents, ends: endsOf(rows), report, inWith: scopesInWith(report.scopes), isModule: tree.goal === 'module' };
   tangledByRows(known, note);
   tangledByTables(known, note);
   if (isTypeScript(tree)) {
     looseNames(known, note);
     mergedNames(known, note);
     namesakes(known, note);
-    tangledInCorners(known, note);
+    typescriptPlaces(known, note);
   }
   return places;
 }

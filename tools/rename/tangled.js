@@ -5,7 +5,6 @@
 const { RunFault } = require('../bolgwyr/faults.js');
 const { runTool } = require('../programs/index.js');
 const { REASONS, UNLISTED, placesIn } = require('./tangled-places.js');
-const { isTypeScript } = require('./typescript-corners.js');
 
 const LINE = /^tangled (\d+) ("(?:[^"\\]|\\.)*") (\S+)/;
 
@@ -26,7 +25,7 @@ function toldOf(json) {
 function tangledNames({ tree, report, json }) {
   const found = new Map();
   const told = toldOf(json);
-  const isClear = told.length === 0 && !isTypeScript(tree) && report.symbols.every(({ name }) => name !== '__proto__');
+  const isClear = told.length === 0 && report.symbols.every(({ name }) => name !== '__proto__');
   if (isClear) {
     return found;
   }

@@ -78,7 +78,7 @@ module.exports = [
   ['a.js', 'let §a; with (o) { (function () { let b; a; }); }', 'c', '1:41',
     '`a` can\'t be followed: it is used within `with`, whose object may have a property of that name (ECMAScript 9.1.1.2)'],
   ['a.js', 'function f() { let §a; eval(""); }', 'b', '1:20', '`a` can\'t be followed: code that is run by a direct call of `eval` may use it (ECMAScript 19.2.1.1)'],
-  // names at which the tables part from TypeScript
+  // names at which the tables may part from TypeScript
   ['a.ts', 'type §U = string; type A<T> = T extends [infer U, U] ? U : never', 'V', '1:50',
     '`U` can\'t be followed: TypeScript sees what `infer` declares in the true part of its conditional type alone'],
   ['a.ts', 'type U = string; type A<T> = T extends [infer §U, { u: U }] ? U : never', 'V', '1:55',
@@ -103,6 +103,12 @@ module.exports = [
     '`A` can\'t be followed: TypeScript may export another declaration of the name as a type here'],
   ['a.ts', 'declare module "m" { const A: 1; export { type A as B } } type §A = 2', 'C', '1:48',
     '`A` can\'t be followed: TypeScript may export another declaration of the name as a type here'],
+  // they don't here: the reasons hold for more
+  ['a.ts', 'type M<T> = T extends (infer §U extends L<U>) ? U : 1; type L<T> = T', 'V', '1:42',
+    '`U` can\'t be followed: TypeScript sees what `infer` declares in the true part of its conditional type alone'],
+  ['a.ts', 'function f<§T, U extends T>(T: T) {}', 'V', '1:25', '`T` can\'t be followed: TypeScript sees no parameter in the type parameters of its function'],
+  ['a.ts', 'type §c = 1; interface I { [k: string]: c }', 'k', '1:40',
+    '`k` couldn\'t be followed: TypeScript means the parameter of the index signature around this use'],
   // lines and columns
   ['a.js', 'let a;', { line: 3, column: 1, to: 'b' }, null, 'there is no line 3: the last one is 1'],
   ['a.js', 'let a;\n', { line: 1, column: 7, to: 'b' }, null, 'line 1 has no column 7: it has 6 characters'],

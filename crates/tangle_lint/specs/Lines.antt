@@ -21,6 +21,11 @@ reason_name reason.Eval = codes "Eval"
 reason_name reason.FreeNamesake = codes "FreeNamesake"
 reason_name reason.MergedMember = codes "MergedMember"
 reason_name reason.NamespaceNamesake = codes "NamespaceNamesake"
+reason_name reason.InferredName = codes "InferredName"
+reason_name reason.HiddenParameter = codes "HiddenParameter"
+reason_name reason.IndexParameter = codes "IndexParameter"
+reason_name reason.SloppyFunction = codes "SloppyFunction"
+reason_name reason.ExportedType = codes "ExportedType"
 
 abbrev pub reason_text : Reason → List ℕ
 reason_text r = codes " " ++ reason_name r

@@ -27,6 +27,11 @@ fn reason_name(reason: Reason) -> &'static str
         Reason::FreeNamesake => "FreeNamesake",
         Reason::MergedMember => "MergedMember",
         Reason::NamespaceNamesake => "NamespaceNamesake",
+        Reason::InferredName => "InferredName",
+        Reason::HiddenParameter => "HiddenParameter",
+        Reason::IndexParameter => "IndexParameter",
+        Reason::SloppyFunction => "SloppyFunction",
+        Reason::ExportedType => "ExportedType",
     }
 }
 

@@ -86,13 +86,13 @@ extends_part_under [] = 0
 extends_part_under (x ∷ path) = extends_part_of x
 
 -- the node is that part
-abbrev pub is_part : ℕ → Node → Bool
-is_part part x = x.node_id == part && not (part == 0)
+abbrev pub is_extends_part : ℕ → Node → Bool
+is_extends_part part x = x.node_id == part && not (part == 0)
 
 -- the place is in that part of the innermost conditional type
 abbrev pub in_extends_under : List Node → Bool
 in_extends_under [] = false
-in_extends_under (x ∷ path) = not (is kind.TSConditionalType x) && (is_part (extends_part_under path) x || in_extends_under path)
+in_extends_under (x ∷ path) = not (is kind.TSConditionalType x) && (is_extends_part (extends_part_under path) x || in_extends_under path)
 
 -- the outermost node of a sort: the one above, or this one if it is of the sort
 abbrev pub outermost : ℕ → Bool → Node → ℕ
@@ -101,7 +101,7 @@ outermost above is_one x = cond (above == 0) (cond is_one x.node_id 0) above
 -- the outermost such part, and the outermost index signature
 abbrev pub extends_under : List Node → ℕ
 extends_under [] = 0
-extends_under (x ∷ path) = outermost (extends_under path) (is_part (extends_part_under path) x) x
+extends_under (x ∷ path) = outermost (extends_under path) (is_extends_part (extends_part_under path) x) x
 
 abbrev pub index_signature_under : List Node → ℕ
 index_signature_under [] = 0
@@ -151,8 +151,8 @@ around_in a x = record {
   declarer = declarer_in x.kind x a.declarer;
   in_inner_block = not (is_home x) && (is_inner_block x || a.in_inner_block);
   extends_part = extends_part_of x;
-  in_extends = not (is kind.TSConditionalType x) && (is_part a.extends_part x || a.in_extends);
-  extends = outermost a.extends (is_part a.extends_part x) x;
+  in_extends = not (is kind.TSConditionalType x) && (is_extends_part a.extends_part x || a.in_extends);
+  extends = outermost a.extends (is_extends_part a.extends_part x) x;
   index_signature = outermost a.index_signature (is kind.TSIndexSignature x) x;
   in_type_parameters = is kind.TSTypeParameterDeclaration x || a.in_type_parameters;
   exports_types = exports_types_in x.kind x a.exports_types;

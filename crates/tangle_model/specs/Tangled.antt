@@ -89,8 +89,8 @@ is_shared (y ∷ ys) name = cond (bytes_eq name y.name) (is_name_of ys name) (is
 abbrev pub any_mention : (Mention → Bool) → List Mention → Name → Bool
 any_mention test ms name = list_any (λ m. test m && bytes_eq name m.name) ms
 
-abbrev pub is_noted : What → List Mention → Name → Bool
-is_noted w ms name = any_mention (is_mention_of w) ms name
+abbrev pub is_noted_as : What → List Mention → Name → Bool
+is_noted_as w ms name = any_mention (is_mention_of w) ms name
 
 abbrev pub any_symbol : (Symbol → Bool) → List Symbol → Name → Bool
 any_symbol test ys name = list_any (λ y. test y && bytes_eq name y.name) ys
@@ -106,10 +106,10 @@ holds_in s ms t reason.FreeNamesake name = is_typescript s && is_some (lookup (b
 holds_in s ms t reason.MergedMember name = any_symbol (is_merged_member ms t) t.symbols name
 holds_in s ms t reason.NamespaceNamesake name = is_typescript s && any_symbol may_be_passed t.symbols name && is_shared t.symbols name
 holds_in s ms t reason.InferredName name = is_typescript s && any_mention (is_beside_infer ms) ms name
-holds_in s ms t reason.HiddenParameter name = is_typescript s && is_noted what.InTypeParameters ms name && any_symbol is_inner_variable t.symbols name
+holds_in s ms t reason.HiddenParameter name = is_typescript s && is_noted_as what.InTypeParameters ms name && any_symbol is_inner_variable t.symbols name
 holds_in s ms t reason.IndexParameter name = is_typescript s && any_mention (is_in_own_index ms) ms name
-holds_in s ms t reason.SloppyFunction name = is_typescript s && is_noted what.InnerFunction ms name && is_shared t.symbols name
-holds_in s ms t reason.ExportedType name = is_typescript s && is_noted what.ExportedType ms name && is_shared t.symbols name
+holds_in s ms t reason.SloppyFunction name = is_typescript s && is_noted_as what.InnerFunction ms name && is_shared t.symbols name
+holds_in s ms t reason.ExportedType name = is_typescript s && is_noted_as what.ExportedType ms name && is_shared t.symbols name
 
 abbrev pub all_reasons : List Reason
 all_reasons =

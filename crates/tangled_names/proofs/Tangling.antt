@@ -1,5 +1,5 @@
 -- The loops that find reasons and tangled names.
-use Rattle.std.proofs.Common.{◌≡◌, ℕ, ◌+◌, ◌<◌, ◌≤◌, List, [], ◌∷◌, ◌++◌, Bool, true, false, cond, ◌&&◌, ◌||◌, not, filter, length, drop, get_or, refl, sym, ap, ◌∙◌, append_assoc, append-nil}
+use Rattle.std.proofs.Common.{◌≡◌, ℕ, ◌+◌, ◌<◌, ◌≤◌, List, [], ◌∷◌, ◌++◌, Bool, true, false, cond, ◌&&◌, ◌||◌, not, filter, length, drop, get_or, Result, Ok, Err, IfOk, refl, sym, ap, ◌∙◌, append_assoc, append-nil}
 use Rattle.std.specs.Str.{bytes_eq}
 use Rattle.std.proofs.lemmas.List.{at_drop_more, at_drop_all}
 use Rattle.semantic_syntax.specs.Reading.{no_symbol, symbol_of}
@@ -10,7 +10,7 @@ use Rattle.semantic_syntax.specs.declared.source_type.SourceType.{SourceType}
 use Rattle.tangle_model.specs.Mention.{Mention}
 use Rattle.tangle_model.specs.Tangled.{Tangle, told, tangles_from, tangles_in, all_reasons, any_mention, any_symbol, meets_declaration, meets_catch_name, is_in_with, is_seen_by_eval, is_merged_member, may_be_passed, is_shared}
 use Rattle.tangle_model.specs.declared.reason.Reason.TheVariants as reason
-use Rattle.tangled_names.specs.Facts.{FactsHold, facts_tell as told_by}
+use Rattle.tangled_names.specs.Facts.{FactsHold, TypedHold, facts_tell as told_by}
 use Rattle.tangled_names.specs.declared.facts.NameFacts.{NameFacts}
 use Rattle.tangle_model.specs.declared.reason.Reason.{Reason}
 use Rattle.tangled_names.specs.Found.{with_tangle}
@@ -88,18 +88,27 @@ module _ (f : NameFacts) (s : SourceType) (ms : List Mention) (t : Tables) where
   pub told_same : ((x : Name) → has_name f.block_functions x ≡ any_mention (meets_declaration ms) ms x) → ((x : Name) → has_name f.catch_variables x ≡ any_mention (meets_catch_name ms) ms x)
       → ((x : Name) → has_name f.in_with x ≡ any_mention is_in_with ms x) → ((x : Name) → has_name f.seen_by_eval x ≡ any_symbol (is_seen_by_eval t) t.symbols x)
       → ((x : Name) → has_name f.merged x ≡ any_symbol (is_merged_member ms t) t.symbols x)
-      → ((x : Name) → has_name f.passed x ≡ any_symbol may_be_passed t.symbols x) → ((x : Name) → has_name f.shared x ≡ is_shared t.symbols x) → FactsHold f s ms t
-  told_same a b c d e g h reason.BlockFunction x = a x
-  told_same a b c d e g h reason.CatchVariable x = b x
-  told_same a b c d e g h reason.Arguments x = refl
-  told_same a b c d e g h reason.With x = c x
-  told_same a b c d e g h reason.Eval x = d x
-  told_same a b c d e g h reason.FreeNamesake x = refl
-  told_same a b c d e g h reason.MergedMember x = e x
-  told_same a b c d e g h reason.NamespaceNamesake x = λ i. is_typescript s && g x i && h x i
+      → ((x : Name) → has_name f.passed x ≡ any_symbol may_be_passed t.symbols x) → ((x : Name) → has_name f.shared x ≡ is_shared t.symbols x) → TypedHold f.typed ms t → FactsHold f s ms t
+  told_same a b c d e g h y reason.BlockFunction x = a x
+  told_same a b c d e g h y reason.CatchVariable x = b x
+  told_same a b c d e g h y reason.Arguments x = refl
+  told_same a b c d e g h y reason.With x = c x
+  told_same a b c d e g h y reason.Eval x = d x
+  told_same a b c d e g h y reason.FreeNamesake x = refl
+  told_same a b c d e g h y reason.MergedMember x = e x
+  told_same a b c d e g h y reason.NamespaceNamesake x = λ i. is_typescript s && g x i && h x i
+  told_same a b c d e g h y reason.InferredName x = λ i. is_typescript s && y.beside_infer x i
+  told_same a b c d e g h y reason.HiddenParameter x = λ i. is_typescript s && y.in_type_parameters x i && y.inner_variables x i
+  told_same a b c d e g h y reason.IndexParameter x = λ i. is_typescript s && y.in_own_index x i
+  told_same a b c d e g h y reason.SloppyFunction x = λ i. is_typescript s && y.inner_functions x i && h x i
+  told_same a b c d e g h y reason.ExportedType x = λ i. is_typescript s && y.exported_types x i && h x i
 
   pub found_same : FactsHold f s ms t → tangles_from (λ (x : Name). filter (λ (r : Reason). told_by f s t r x) all_reasons) (λ x. false) 0 t.symbols ≡ tangles_in s ms t
   found_same tells = λ i. tangles_from (λ (x : Name). filter (λ (r : Reason). tells r x i) all_reasons) (λ x. false) 0 t.symbols
+
+pub if_ok_same : {T E : Type 0} (r : Result T E) (a b : T) → a ≡ b → IfOk r (λ x. x ≡ a) → IfOk r (λ x. x ≡ b)
+if_ok_same (Ok x) a b is h = h ∙ is
+if_ok_same (Err e) a b is h = h
 
 pub all_same : (s s' : SourceType) (ms ms' : List Mention) (t t' : Tables) → s ≡ s' → ms ≡ ms' → t ≡ t' → tangles_in s ms t ≡ tangles_in s' ms' t'
 all_same s s' ms ms' t t' a b c = λ i. tangles_in (a i) (b i) (c i)

@@ -3,8 +3,9 @@ ghost use Rattle.std.specs.Prelude.{◌≡◌, ◌&&◌, ℕ, map, IfOk};
 ghost use Rattle.semantic_syntax.specs.Members.{contains};
 ghost use Rattle.semantic_syntax.specs.Reading.{scope_of};
 ghost use Rattle.semantic_syntax.specs.Tables.{Name, Symbol};
-ghost use Rattle.tangle_model.specs.Repeated.{is_mention_of, key_of, key_stands};
+ghost use Rattle.tangle_model.specs.Repeated.{is_mention_of, key_of, keys_of, key_stands};
 ghost use Rattle.tangle_model.specs.Tangled.{any_mention, any_symbol, is_seen_by_eval, is_merged_member, may_be_passed, is_shared, is_in_with, meets_declaration, meets_catch_name};
+ghost use Rattle.tangled_names.specs.Facts.{TypedHold};
 ghost use Rattle.tangled_names.specs.Gathered.{noted_of};
 ghost use Rattle.tangled_names.specs.Stored.{has_name, node_key, openers_by};
 
@@ -12,6 +13,7 @@ use crate::key_set::KeySet;
 use crate::mention::{Mention, is_of};
 use crate::repeated::{noted_keys, repeated_keys, shared_names};
 use crate::scope_questions::{is_bound_by, is_seen_by_eval, may_be_passed};
+use crate::typed_facts::TypedFacts;
 use scoping::Scoping;
 use semantic_syntax::SymbolId;
 use std::alloc::{AllocError, Global};
@@ -27,6 +29,7 @@ pub struct NameFacts<'a> {
     pub(crate) merged: KeySet<'a>,
     pub(crate) passed: KeySet<'a>,
     pub(crate) shared: KeySet<'a>,
+    pub(crate) typed: TypedFacts<'a>,
 }
 
 /// Whether that is what is noted, and its name is among the keys at its home.
@@ -58,7 +61,7 @@ fn names_among<'a>(
 }
 
 /// The names of what is noted as that.
-fn noted_names<'a>(
+pub fn noted_names<'a>(
     alloc: Global,
     mentions: &[Mention<'a>],
     what: What,
@@ -153,14 +156,21 @@ fn block_functions<'a>(alloc: Global, mentions: &[Mention<'a>]) -> Result<KeySet
     names_among(alloc, mentions, What::BlockFunction, &repeated)
 }
 
-/// The names of `var` in catch clauses that meet a catch name.
-fn catch_variables<'a>(alloc: Global, mentions: &[Mention<'a>]) -> Result<KeySet<'a>, AllocError>
+/// The names of what is noted as the first, where they are noted as the second at the same homes.
+pub fn met_names<'a>(
+    alloc: Global,
+    mentions: &[Mention<'a>],
+    what: What,
+    met: What,
+) -> Result<KeySet<'a>, AllocError>
     ensures { IfOk result (λ names. (name : Name)
-        → has_name names name ≡ any_mention (meets_catch_name (map noted_of mentions.now))
+        → has_name names name ≡ any_mention
+        (λ m. is_mention_of what m
+        && key_stands (key_of m) (keys_of met (map noted_of mentions.now)))
         (map noted_of mentions.now) name) }
 {
-    let caught = noted_keys(alloc, mentions, What::CatchName)?;
-    names_among(alloc, mentions, What::VarInCatch, &caught)
+    let keys = noted_keys(alloc, mentions, met)?;
+    names_among(alloc, mentions, what, &keys)
 }
 
 /// The names of members of blocks that are declared more than once.
@@ -208,14 +218,17 @@ impl<'a> NameFacts<'a> {
             → has_name f.passed name ≡ any_symbol may_be_passed scoping.now.symbols name) }
         ensures shared { IfOk result (λ f. (name : Name)
             → has_name f.shared name ≡ is_shared scoping.now.symbols name) }
+        ensures typed { IfOk result (λ f.
+            TypedHold f.typed (map noted_of mentions.now) scoping.now) }
     {
         let block_functions = block_functions(alloc, mentions)?;
-        let catch_variables = catch_variables(alloc, mentions)?;
+        let catch_variables = met_names(alloc, mentions, What::VarInCatch, What::CatchName)?;
         let in_with = noted_names(alloc, mentions, What::InWith)?;
         let seen_by_eval = eval_names(alloc, scoping)?;
         let merged = merged_members(alloc, mentions, scoping)?;
         let passed = passed_names(alloc, scoping)?;
         let shared = shared_names(alloc, scoping)?;
+        let typed = TypedFacts::of(alloc, mentions, scoping)?;
         Ok(NameFacts {
             block_functions,
             catch_variables,
@@ -224,6 +237,7 @@ impl<'a> NameFacts<'a> {
             merged,
             passed,
             shared,
+            typed,
         })
     }
 }

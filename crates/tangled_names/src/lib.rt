@@ -9,6 +9,7 @@ mod repeated;
 mod scope_questions;
 mod surroundings;
 mod tangles;
+mod typed_facts;
 
 pub use facts::NameFacts;
 pub use key_set::KeySet;
@@ -16,3 +17,4 @@ pub use mention::Mention;
 pub use pass::MentionPass;
 pub use tangle_model::Reason;
 pub use tangles::{TangledName, TangledNames, tangled_names};
+pub use typed_facts::TypedFacts;

@@ -2,8 +2,9 @@
 ghost use Rattle.std.specs.Prelude.{◌≡◌, ◌++◌, [], codes, map, OnOk, IfOk};
 ghost use Rattle.scoping_rows.specs.Names.{name_of};
 ghost use Rattle.semantic_tree.specs.Views.{child_of};
-ghost use Rattle.semantic_kinds.specs.declared.role.Role.TheVariants.{Id as id_role, Body as body_role};
-ghost use Rattle.tangle_model.specs.Mention.{mentions, noted_if, identifier_noted, is_block_function, function_noted, declaration_noted, named_noted, noted, enum_noted, noted_by};
+ghost use Rattle.semantic_kinds.specs.declared.role.Role.TheVariants.{Id as id_role, Body as body_role, Parameter as parameter_role};
+ghost use Rattle.tangle_model.specs.Mention.{mentions, noted_if, identifier_noted, is_block_function, is_inner_function, function_noted, declaration_noted, named_noted, noted, enum_noted, reference_noted, inferred_noted, name_of_parameter, noted_by};
+ghost use Rattle.tangle_model.specs.Surroundings as surroundings;
 ghost use Rattle.tangle_model.specs.declared.what.What.TheVariants.{Block as block_noted};
 ghost use Rattle.tangled_names.specs.Gathered.{noted_of, mentions_from};
 
@@ -38,6 +39,13 @@ fn is_block_function(function: AstKind<'_>, around: &Around) -> bool
     ensures { result ≡ is_block_function around.now function.entry.node.now }
 {
     around.in_block && !around.is_strict && !is_special(function)
+}
+
+/// Whether a function declaration there stands in a block, a loop, a `switch` or a `with` of sloppy code.
+fn is_inner_function(around: &Around) -> bool
+    ensures { result ≡ is_inner_function around.now }
+{
+    around.in_inner_block && !around.is_strict
 }
 
 /// The name of all `global` blocks.
@@ -127,7 +135,8 @@ impl<'a> MentionPass<'a> {
         let is_block_function = is_block_function(function, around);
         let home = around.home.index();
         self.note_if(true, What::Declaration, home, name)?;
-        self.note_if(is_block_function, What::BlockFunction, home, name)
+        self.note_if(is_block_function, What::BlockFunction, home, name)?;
+        self.note_if(is_inner_function(around), What::InnerFunction, home, name)
     }
 
     /// Notes the function, if it is a declaration with a name.
@@ -170,6 +179,52 @@ impl<'a> MentionPass<'a> {
         }
     }
 
+    /// Notes what is said of a reference.
+    fn note_reference(&mut self, name: Ident<'a>, around: &Around) -> Result<(), AllocError>
+        ensures { OnOk result (self.new
+            ≡ self.old ++ reference_noted around.now (name_of name.entry)) }
+    {
+        let home = around.home.index();
+        let extends = around.extends.index();
+        let signature = around.index_signature.index();
+        self.note_if(around.in_with, What::InWith, home, name)?;
+        self.note_if(extends != 0, What::BesideInfer, extends, name)?;
+        self.note_if(signature != 0, What::InIndexSignature, signature, name)?;
+        self.note_if(
+            around.in_type_parameters,
+            What::InTypeParameters,
+            home,
+            name,
+        )?;
+        self.note_if(around.exports_types, What::ExportedType, home, name)
+    }
+
+    /// Notes a name that `infer` declares, by what is around its type parameter.
+    fn note_inferred(&mut self, name: Ident<'a>, around: &Around) -> Result<(), AllocError>
+        ensures { OnOk result (self.new
+            ≡ self.old ++ inferred_noted around.now (name_of name.entry)) }
+    {
+        let extends = around.extends.index();
+        self.note_if(true, What::Inferred, extends, name)?;
+        self.note_if(!around.in_extends, What::BesideInfer, extends, name)
+    }
+
+    /// Notes what an `infer` declares.
+    fn note_infer(&mut self, infer: AstKind<'a>, around: &Around) -> Result<(), AllocError>
+        ensures { OnOk result (self.new
+            ≡ self.old ++ named_noted
+            (inferred_noted (surroundings.around_in around.now infer.entry.node.now))
+            (name_of_parameter (child_of parameter_role infer.entry.node.now))) }
+    {
+        let Some(parameter) = infer.child(Role::Parameter) else {
+            return Ok(());
+        };
+        match parameter.child(Role::Name) {
+            Some(id) => self.note_inferred(id.text(), &around_in(infer, around)),
+            None => Ok(()),
+        }
+    }
+
     /// Notes what is said of names at the node.
     fn note(&mut self, node: AstKind<'a>, around: &Around) -> Result<(), AllocError>
         ensures { OnOk result (self.new
@@ -177,14 +232,7 @@ impl<'a> MentionPass<'a> {
     {
         match node.ty() {
             AstType::BindingIdentifier => self.note_identifier(node.text(), around),
-            AstType::IdentifierReference => {
-                self.note_if(
-                    around.in_with,
-                    What::InWith,
-                    around.home.index(),
-                    node.text(),
-                )
-            }
+            AstType::IdentifierReference => self.note_reference(node.text(), around),
             AstType::Function => self.note_declared(node, around),
             AstType::TSNamespaceDeclaration | AstType::TSExternalModuleDeclaration => {
                 self.note_block(node)
@@ -193,6 +241,15 @@ impl<'a> MentionPass<'a> {
                 self.note_if(true, What::Block, node.node_id().index(), global_name())
             }
             AstType::TSEnumDeclaration => self.note_enum(node),
+            AstType::TSInferType => self.note_infer(node, around),
+            AstType::TSIndexSignatureName => {
+                self.note_if(
+                    true,
+                    What::IndexParameter,
+                    around.index_signature.index(),
+                    node.text(),
+                )
+            }
             _ => Ok(()),
         }
     }

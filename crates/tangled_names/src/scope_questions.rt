@@ -2,7 +2,7 @@
 ghost use Rattle.std.specs.Prelude.{◌≡◌, ◌<◌, length};
 ghost use Rattle.semantic_syntax.specs.Reading.{scope_flags, scope_of, symbol_of};
 ghost use Rattle.tangle_model.specs.Repeated.{key_stands};
-ghost use Rattle.tangle_model.specs.Tangled.{is_seen_by_eval, is_bare_namespace, is_inner_alias, may_be_passed};
+ghost use Rattle.tangle_model.specs.Tangled.{is_seen_by_eval, is_bare_namespace, is_inner_alias, may_be_passed, is_inner_variable};
 ghost use Rattle.tangled_names.specs.Stored.{node_key};
 
 use crate::key_set::KeySet;
@@ -76,4 +76,15 @@ pub fn may_be_passed(scoping: &Scoping, symbol: SymbolId) -> bool
     ensures { result ≡ may_be_passed (symbol_of scoping.now symbol) }
 {
     is_bare_namespace(scoping, symbol) || is_inner_alias(scoping, symbol)
+}
+
+/// Whether the symbol is a parameter, or a variable in a scope that isn't the root.
+pub fn is_inner_variable(scoping: &Scoping, symbol: SymbolId) -> bool
+    requires { symbol < length scoping.now.symbols }
+    ensures { result ≡ is_inner_variable (symbol_of scoping.now symbol) }
+{
+    scoping
+        .symbol_flags(symbol)
+        .intersects(SymbolFlags::FunctionScopedVariable)
+        && scoping.symbol_scope_id(symbol).index() != 0
 }

@@ -81,6 +81,7 @@ fn holds(
 ) -> bool
     ensures { result ≡ facts_tell facts.now source_type scoping.now reason (chars name.entry.now) }
 {
+    let is_typed = source_type.is_typescript();
     match reason {
         Reason::BlockFunction => facts.block_functions.has_name(name),
         Reason::CatchVariable => facts.catch_variables.has_name(name),
@@ -88,7 +89,7 @@ fn holds(
         Reason::With => facts.in_with.has_name(name),
         Reason::Eval => facts.seen_by_eval.has_name(name),
         Reason::FreeNamesake => {
-            source_type.is_typescript()
+            is_typed
                 && scoping
                     .root_unresolved_references()
                     .get(Ident::new(name))
@@ -96,9 +97,20 @@ fn holds(
         }
         Reason::MergedMember => facts.merged.has_name(name),
         Reason::NamespaceNamesake => {
-            source_type.is_typescript()
-                && facts.passed.has_name(name)
-                && facts.shared.has_name(name)
+            is_typed && facts.passed.has_name(name) && facts.shared.has_name(name)
+        }
+        Reason::InferredName => is_typed && facts.typed.beside_infer.has_name(name),
+        Reason::HiddenParameter => {
+            is_typed
+                && facts.typed.in_type_parameters.has_name(name)
+                && facts.typed.inner_variables.has_name(name)
+        }
+        Reason::IndexParameter => is_typed && facts.typed.in_own_index.has_name(name),
+        Reason::SloppyFunction => {
+            is_typed && facts.typed.inner_functions.has_name(name) && facts.shared.has_name(name)
+        }
+        Reason::ExportedType => {
+            is_typed && facts.typed.exported_types.has_name(name) && facts.shared.has_name(name)
         }
     }
 }
@@ -116,6 +128,11 @@ fn all_reasons() -> &'static [Reason]
         Reason::FreeNamesake,
         Reason::MergedMember,
         Reason::NamespaceNamesake,
+        Reason::InferredName,
+        Reason::HiddenParameter,
+        Reason::IndexParameter,
+        Reason::SloppyFunction,
+        Reason::ExportedType,
     ]
 }
 
@@ -199,6 +216,5 @@ pub fn tangled_names(
 {
     let pass = MentionPass::over(alloc, program)?;
     let facts = NameFacts::of(alloc, pass.as_slice(), scoping)?;
-    let found = tangles_by(alloc, &facts, program.source_type(), scoping)?;
-    Ok(found)
+    tangles_by(alloc, &facts, program.source_type(), scoping)
 }

@@ -9,6 +9,7 @@ use Rattle.semantic_tree.specs.Faults.{first_fault}
 use Rattle.semantic_tree.specs.Tree.{Tree, IsNumbered}
 use Rattle.semantic_model.specs.Binder.{is_statement}
 use Rattle.semantic_model.specs.Entries.{Among}
+use Rattle.semantic_model.proofs.lists.Members.{among_left}
 use Rattle.semantic_model.specs.Names.{names_at}
 use Rattle.semantic_model.specs.Place.{Place}
 use Rattle.semantic_model.specs.Step.{Step, entering, steps}
@@ -157,7 +158,8 @@ module _ (p : Tree) (h : first_fault p ≡ None) (e : is_ecmascript p ≡ true) 
 
     block_there : Among as_block (mentions p)
     block_there = of_flat (noted_at p.source_type) (steps p) (entering r) as_block entered
-        (function_noted_there p h e numbered r entered rooted l.function l.statement l.name_node l.among as_block (inr (subst (λ t. Among as_block (noted_if t what.BlockFunction (home_under r.path) l.name_node.text)) (sym blocked) (inl refl))))
+        (function_noted_there p h e numbered r entered rooted l.function l.statement l.name_node l.among as_block (inr (among_left as_block (noted_if (is_block_function (around_under p.source_type r.path) r.node) what.BlockFunction (home_under r.path) l.name_node.text) _
+        (subst (λ t. Among as_block (noted_if t what.BlockFunction (home_under r.path) l.name_node.text)) (sym blocked) (inl refl)))))
 
     -- no other node notes the name at its home
     noted_once : (z : Place) → Among (entering z) (steps p) → (entering z ≡ entering r → ⊥) → (other : Name) → other ≡ name → Among (record { what = what.Declaration; home = home_under r.path; name = other }) (noted_at p.source_type (entering z)) → ⊥

@@ -11,10 +11,11 @@ use Rattle.semantic_model.specs.Place.{Place}
 use Rattle.semantic_model.specs.Step.{entering, steps}
 use Rattle.semantic_model.specs.TablesOf.{tables_of}
 use Rattle.semantic_model.proofs.form.Clauses.{kind_is}
+use Rattle.semantic_model.proofs.lists.Members.{among_left}
 use Rattle.semantic_model.proofs.once.ListedUnder.{name_tells}
 use Rattle.binding_laws.proofs.ListLaws.{filtered_out, of_flat}
 use Rattle.binding_laws.proofs.SmallLaws.{never, not_empty}
-use Rattle.tangle_model.specs.Mention.{Mention, noted_by, noted_at, mentions}
+use Rattle.tangle_model.specs.Mention.{Mention, noted_if, noted_by, noted_at, mentions}
 use Rattle.tangle_model.specs.Surroundings.{in_with_under, home_under, around_under}
 use Rattle.tangle_model.specs.Tangled.{is_in_with, any_mention, holds_in, all_reasons, tangle_reasons}
 use Rattle.tangle_model.specs.declared.reason.Reason.{Reason}
@@ -31,9 +32,14 @@ any_of test (y ∷ xs) x (inr a) h = or_second (test y) (list_any test xs) (any_
     or_second true c w = refl
     or_second false c w = w
 
--- all reasons but that a name stands in a `with`
+-- all reasons but that a name stands in a `with`: those before it, and those after
+abbrev pub later_reasons : List Reason
+later_reasons =
+    reason.Eval ∷ reason.FreeNamesake ∷ reason.MergedMember ∷ reason.NamespaceNamesake ∷ reason.InferredName ∷ reason.HiddenParameter ∷ reason.IndexParameter
+    ∷ reason.SloppyFunction ∷ reason.ExportedType ∷ []
+
 abbrev pub other_reasons : List Reason
-other_reasons = reason.BlockFunction ∷ reason.CatchVariable ∷ reason.Arguments ∷ reason.Eval ∷ reason.FreeNamesake ∷ reason.MergedMember ∷ reason.NamespaceNamesake ∷ []
+other_reasons = reason.BlockFunction ∷ reason.CatchVariable ∷ reason.Arguments ∷ later_reasons
 
 -- none of these holds of the name
 abbrev pub NoneButWith : Tree → Name → Type 0
@@ -60,12 +66,22 @@ none_told false false false true rs h = absurd (not_empty reason.With rs h)
 none_told false false false false rs h = h
 
 -- nor where that one is told alone
-never_last : (e f m n : Bool) → told_if e reason.Eval (told_if f reason.FreeNamesake (told_if m reason.MergedMember (told_if n reason.NamespaceNamesake []))) ≡ reason.With ∷ [] → ⊥
-never_last true f m n h = absurd cc
-never_last false true m n h = absurd cc
-never_last false false true n h = absurd cc
-never_last false false false true h = absurd cc
-never_last false false false false h = absurd cc
+abbrev is_with : Reason → Bool
+is_with reason.With = true
+is_with _ = false
+
+never_kept : (test : Reason → Bool) (rs : List Reason) → list_any is_with rs ≡ false → filter test rs ≡ reason.With ∷ [] → ⊥
+never_kept test [] none h = absurd cc
+never_kept test (r ∷ rs) none h = go (is_with r) refl none (test r) h
+  where
+    first_or : List Reason → Reason
+    first_or [] = r
+    first_or (x ∷ xs) = x
+
+    go : (w : Bool) → is_with r ≡ w → (w || list_any is_with rs) ≡ false → (b : Bool) → cond b (r ∷ filter test rs) (filter test rs) ≡ reason.With ∷ [] → ⊥
+    go true e n b i = never n
+    go false e n true i = never (sym (ap is_with (ap first_or i)) ∙ e)
+    go false e n false i = never_kept test rs n i
 
 one_told : (b c a w : Bool) (rs : List Reason) → (rs ≡ reason.With ∷ [] → ⊥) → told_if b reason.BlockFunction (told_if c reason.CatchVariable (told_if a reason.Arguments (told_if w reason.With rs))) ≡ reason.With ∷ [] → told_if b reason.BlockFunction (told_if c reason.CatchVariable (told_if a reason.Arguments rs)) ≡ []
 one_told true c a w rs n h = absurd cc
@@ -78,15 +94,15 @@ module _ (p : Tree) (name : Name) where
   abbrev holds : Reason → Bool
   holds r = holds_in p.source_type (mentions p) (tables_of p) r name
 
-  abbrev later_reasons : List Reason
-  later_reasons = filter holds (reason.Eval ∷ reason.FreeNamesake ∷ reason.MergedMember ∷ reason.NamespaceNamesake ∷ [])
+  abbrev later : List Reason
+  later = filter holds later_reasons
 
   -- of a name that isn't tangled, and of one that is only by this reason
   pub none_but_with : tangle_reasons p name ≡ [] → NoneButWith p name
-  none_but_with h = none_told (holds reason.BlockFunction) (holds reason.CatchVariable) (holds reason.Arguments) (holds reason.With) later_reasons h
+  none_but_with h = none_told (holds reason.BlockFunction) (holds reason.CatchVariable) (holds reason.Arguments) (holds reason.With) later h
 
   pub with_alone : tangle_reasons p name ≡ reason.With ∷ [] → NoneButWith p name
-  with_alone h = one_told (holds reason.BlockFunction) (holds reason.CatchVariable) (holds reason.Arguments) (holds reason.With) later_reasons (never_last (holds reason.Eval) (holds reason.FreeNamesake) (holds reason.MergedMember) (holds reason.NamespaceNamesake)) h
+  with_alone h = one_told (holds reason.BlockFunction) (holds reason.CatchVariable) (holds reason.Arguments) (holds reason.With) later (never_kept holds later_reasons refl) h
 
 module _ (p : Tree) (name : Name) (untangled : tangle_reasons p name ≡ []) where
   -- nothing of it is noted that stands in a `with`
@@ -94,10 +110,12 @@ module _ (p : Tree) (name : Name) (untangled : tangle_reasons p name ≡ []) whe
   not_in_with = filtered_out (λ r. holds_in p.source_type (mentions p) (tables_of p) r name) all_reasons reason.With untangled (inr (inr (inr (inl refl))))
 
   noted_in_with : (q : Place) → is kind.IdentifierReference q.node ≡ true → in_with_under q.path ≡ true → Among (record { what = what.InWith; home = home_under q.path; name = q.node.text }) (noted_at p.source_type (entering q))
-  noted_in_with q k w = subst (λ j. Among (record { what = what.InWith; home = home_under q.path; name = q.node.text }) (noted_by j (around_under p.source_type q.path) q.node)) (sym (kind_is q.node.kind kind.IdentifierReference k)) (by w)
-    where
-      by : in_with_under q.path ≡ true → Among {A = Mention} (record { what = what.InWith; home = home_under q.path; name = q.node.text }) (cond (in_with_under q.path) (record { what = what.InWith; home = home_under q.path; name = q.node.text } ∷ []) [])
-      by i = subst (λ b. Among {A = Mention} (record { what = what.InWith; home = home_under q.path; name = q.node.text }) (cond b (record { what = what.InWith; home = home_under q.path; name = q.node.text } ∷ []) [])) (sym i) (inl refl)
+  noted_in_with q k w =
+      let m : Mention = record { what = what.InWith; home = home_under q.path; name = q.node.text } in
+      let first : Among m (noted_if (in_with_under q.path) what.InWith (home_under q.path) q.node.text) =
+      subst (λ b. Among m (noted_if b what.InWith (home_under q.path) q.node.text)) (sym w) (inl refl) in
+      subst (λ j. Among m (noted_by j (around_under p.source_type q.path) q.node)) (sym (kind_is q.node.kind kind.IdentifierReference k))
+      (among_left m _ _ (among_left m _ _ (among_left m _ _ (among_left m _ _ first))))
 
   -- so no `with` holds a reference of it
   pub read_outside_with : IsReadOutsideWith p name
