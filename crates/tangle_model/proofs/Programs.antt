@@ -423,3 +423,16 @@ exported_types =
   where
     exported : List ℕ → Forest
     exported name = node role.Specifiers kind.ExportSpecifier [] (reference role.Local name ∷ node role.Exported kind.IdentifierName name [] ∷ [])
+
+-- `{ { var a; } type a = string; }`, with the given word for `var` and in the given language
+abbrev pub passed_type : (word : List ℕ) → Lang → Tree
+passed_type word l =
+    program goal.Script l
+    (block role.Body
+    (block role.Body (variable word (codes "a") ∷ []) ∷ alias (codes "a") (node role.ValueType kind.TSStringKeyword [] []) ∷ [])
+    ∷ [])
+
+-- `var a; type a = string;`
+abbrev pub type_beside_variable : Tree
+type_beside_variable =
+    program goal.Script lang.Ts (variable (codes "var") (codes "a") ∷ alias (codes "a") (node role.ValueType kind.TSStringKeyword [] []) ∷ [])

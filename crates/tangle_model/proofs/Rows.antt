@@ -4,8 +4,8 @@ use Rattle.std.specs.Str.{chars}
 use Rattle.std.proofs.Common.{◌≡◌, [], ◌∷◌, codes, refl}
 use Rattle.semantic_syntax.specs.declared.source_type.Lang.TheVariants.{Js, Ts}
 use Rattle.tangle_model.specs.Tangled.{tangles}
-use Rattle.tangle_model.specs.declared.reason.Reason.TheVariants.{BlockFunction, CatchVariable, Arguments, With, Eval, FreeNamesake, MergedMember, NamespaceNamesake, InferredName, HiddenParameter, IndexParameter, SloppyFunction, ExportedType}
-use Rattle.tangle_model.proofs.Programs.{two_blocks, one_block, two_homes, strict_blocks, special_blocks, block_and_var, if_and_parameter, block_and_own_name, case_and_let, block_and_catch, top_functions, var_in_catch, var_beside_catch, var_arguments, reads_arguments, reference_in_with, var_in_with, with_eval, free_type, free_in_javascript, merged_namespaces, merged_enums, inner_namespace, namespace_in_another, lone_namespace, inner_alias, outer_alias, infer_beside, infers_in_order, stray_infer, constrained, index_signature, inner_function, exported_types}
+use Rattle.tangle_model.specs.declared.reason.Reason.TheVariants.{BlockFunction, CatchVariable, Arguments, With, Eval, FreeNamesake, MergedMember, NamespaceNamesake, InferredName, HiddenParameter, IndexParameter, SloppyFunction, ExportedType, TypedVariable}
+use Rattle.tangle_model.proofs.Programs.{two_blocks, one_block, two_homes, strict_blocks, special_blocks, block_and_var, if_and_parameter, block_and_own_name, case_and_let, block_and_catch, top_functions, var_in_catch, var_beside_catch, var_arguments, reads_arguments, reference_in_with, var_in_with, with_eval, free_type, free_in_javascript, merged_namespaces, merged_enums, inner_namespace, namespace_in_another, lone_namespace, inner_alias, outer_alias, infer_beside, infers_in_order, stray_infer, constrained, index_signature, inner_function, exported_types, passed_type, type_beside_variable}
 
 -- two block functions of one home
 row_two_blocks : tangles two_blocks ≡ record { symbol = 0; reasons = BlockFunction ∷ [] } ∷ []
@@ -196,3 +196,23 @@ row_inner_function_in_javascript = refl
 row_exported_types : tangles exported_types ≡ record { symbol = 0; reasons = ExportedType ∷ [] } ∷ []
 unfolding encode chars
 row_exported_types = refl
+
+-- a type in a block that a `var` of its name passes
+row_passed_type : tangles (passed_type (codes "var") Ts) ≡ record { symbol = 0; reasons = TypedVariable ∷ [] } ∷ []
+unfolding encode chars
+row_passed_type = refl
+
+-- no `var` passes
+row_type_outside : tangles (passed_type (codes "let") Ts) ≡ []
+unfolding encode chars
+row_type_outside = refl
+
+-- it is no reason in JavaScript
+row_passed_type_in_javascript : tangles (passed_type (codes "var") Js) ≡ []
+unfolding encode chars
+row_passed_type_in_javascript = refl
+
+-- a type beside a `var` in no block
+row_type_beside_variable : tangles type_beside_variable ≡ []
+unfolding encode chars
+row_type_beside_variable = refl

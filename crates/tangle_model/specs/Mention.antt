@@ -42,6 +42,7 @@ identifier_noted a name =
     ++ noted_if (same_declarer a.declarer declarer.CatchParameter) what.CatchName a.home name
     ++ noted_if (same_declarer a.declarer declarer.Var && a.in_catch) what.VarInCatch a.home name
     ++ noted_if (same_declarer a.declarer declarer.Var && a.in_with) what.InWith a.home name
+    ++ noted_if (same_declarer a.declarer declarer.Var && a.in_inner_block) what.PassingVariable a.home name
 
 -- a plain function declaration in a block, a case or as the body of an `if` of sloppy code (B.3.2, B.3.3)
 abbrev pub is_block_function : Around → Node → Bool

@@ -76,6 +76,10 @@ may_be_passed y = is_bare_namespace y || is_inner_alias y
 abbrev pub is_inner_variable : Symbol → Bool
 is_inner_variable y = meets y.flags.bits symbol.FunctionScopedVariable.bits && not (y.scope == 0)
 
+-- a variable or parameter that is a type as well: in the tables a block that a `var` passes has the variable's symbol, which a type of the name in that block joins, so that it is seen outside; in TypeScript it is the block's own
+abbrev pub is_typed_variable : Symbol → Bool
+is_typed_variable y = meets y.flags.bits symbol.FunctionScopedVariable.bits && meets y.flags.bits symbol.TypeFlag.bits
+
 -- ---- names
 
 abbrev pub is_name_of : List Symbol → Name → Bool
@@ -110,11 +114,13 @@ holds_in s ms t reason.HiddenParameter name = is_typescript s && is_noted_as wha
 holds_in s ms t reason.IndexParameter name = is_typescript s && any_mention (is_in_own_index ms) ms name
 holds_in s ms t reason.SloppyFunction name = is_typescript s && is_noted_as what.InnerFunction ms name && is_shared t.symbols name
 holds_in s ms t reason.ExportedType name = is_typescript s && is_noted_as what.ExportedType ms name && is_shared t.symbols name
+holds_in s ms t reason.TypedVariable name = is_typescript s && is_noted_as what.PassingVariable ms name && any_symbol is_typed_variable t.symbols name
 
 abbrev pub all_reasons : List Reason
 all_reasons =
     reason.BlockFunction ∷ reason.CatchVariable ∷ reason.Arguments ∷ reason.With ∷ reason.Eval ∷ reason.FreeNamesake ∷ reason.MergedMember
-    ∷ reason.NamespaceNamesake ∷ reason.InferredName ∷ reason.HiddenParameter ∷ reason.IndexParameter ∷ reason.SloppyFunction ∷ reason.ExportedType ∷ []
+    ∷ reason.NamespaceNamesake ∷ reason.InferredName ∷ reason.HiddenParameter ∷ reason.IndexParameter ∷ reason.SloppyFunction ∷ reason.ExportedType
+    ∷ reason.TypedVariable ∷ []
 
 abbrev pub reasons_in : SourceType → List Mention → Tables → Name → List Reason
 reasons_in s ms t name = filter (λ r. holds_in s ms t r name) all_reasons

@@ -30,4 +30,6 @@ pub enum Reason {
     SloppyFunction,
     /// In TypeScript, the name is exported as a type, and two symbols have it.
     ExportedType,
+    /// In TypeScript, a `var` in a block has the name, and a symbol of it is a variable and a type.
+    TypedVariable,
 }

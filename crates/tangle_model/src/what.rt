@@ -29,4 +29,6 @@ pub enum What {
     InTypeParameters,
     /// It is exported as a type.
     ExportedType,
+    /// It is declared by `var` in a block, loop, `switch` or `with`, which the variable passes.
+    PassingVariable,
 }
