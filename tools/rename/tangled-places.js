@@ -5,7 +5,7 @@
 
 const { DEPTH, END, KIND, ROLE, START, TEXT, endsOf, parentsOf } = require('../edits/rows.js');
 const { eachDeclaration } = require('./declarations.js');
-const { sharedNames, typescriptPlaces } = require('./typescript-places.js');
+const { TYPES, sharedNames, typescriptPlaces } = require('./typescript-places.js');
 
 // Why names are tangled, by the word that the program has for it, with the section of ECMAScript.
 const REASONS = {
@@ -22,6 +22,7 @@ const REASONS = {
   IndexParameter: 'TypeScript means the parameter of the index signature around this use',
   SloppyFunction: 'TypeScript may take this function out of its block, and another declaration shares its name',
   ExportedType: 'TypeScript may export another declaration of the name as a type here',
+  TypedVariable: 'TypeScript may see no type of the name where this variable is seen, which passes its block',
 };
 
 // Why another is kept like these, though the program doesn't list it.
@@ -163,7 +164,6 @@ function mergedNames({ rows, parents, ends, report }, note) {
 }
 
 const MODULES = new Set(['ValueModule', 'NamespaceModule']);
-const TYPES = new Set(['Class', 'Interface', 'RegularEnum', 'ConstEnum', 'EnumMember', 'TypeParameter', 'TypeAlias']);
 const IMPORTS = new Set(['Import', 'TypeImport']);
 
 // Whether a qualified name may pass the symbol in the tables and not in TypeScript, or the other way round: a namespace that is no type, or

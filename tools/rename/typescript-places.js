@@ -1,10 +1,16 @@
 'use strict';
-// Where it shows that the tables of a name may part from TypeScript, for five reasons of crates/tangle_model, by one pass over the rows.
+// Where it shows that the tables of a name may part from TypeScript, for six reasons of crates/tangle_model, by one pass over the rows.
 
 const { END, KIND, MARKS, ROLE, START, TEXT } = require('../edits/rows.js');
 
 const HOMES = new Set(['Program', 'Function', 'ArrowFunctionExpression', 'StaticBlock', 'TSModuleBlock']);
 const INNER_BLOCKS = new Set(['BlockStatement', 'ForStatement', 'ForInStatement', 'ForOfStatement', 'SwitchStatement', 'WithStatement']);
+// The flags of symbols that are types.
+const TYPES = new Set(['Class', 'Interface', 'RegularEnum', 'ConstEnum', 'EnumMember', 'TypeParameter', 'TypeAlias']);
+// What names of a declaration may stand in.
+const PATTERNS = new Set([
+  'VariableDeclarator', 'ObjectPattern', 'ArrayPattern', 'AssignmentPattern', 'BindingProperty', 'BindingRestElement',
+]);
 const STATEMENTS = new Set(['declaration', 'ts-declare']);
 
 // The rows with the directive that makes code strict.
@@ -23,7 +29,7 @@ class Surroundings {
   constructor(rows, parents, isModule) {
     Object.assign(this, { rows, parents, isModule, strict: directed(rows, parents) });
     const flags = () => new Uint8Array(rows.length);
-    Object.assign(this, { isStrict: flags(), inInnerBlock: flags(), inExtends: flags(), inTypeParameters: flags(), exportsTypes: flags() });
+    Object.assign(this, { isStrict: flags(), inInnerBlock: flags(), inExtends: flags(), inTypeParameters: flags(), exportsTypes: flags(), isVar: flags() });
     Object.assign(this, { extends: new Int32Array(rows.length), indexSignature: new Int32Array(rows.length) });
     rows.forEach((row, node) => this.enter(row, node));
   }
@@ -41,6 +47,7 @@ class Surroundings {
     this.indexSignature[node] = above(this.indexSignature) || (kind === 'TSIndexSignature' ? node : 0);
     this.inTypeParameters[node] = kind === 'TSTypeParameterDeclaration' || above(this.inTypeParameters);
     this.exportsTypes[node] = this.exportsTypesIn(row, above(this.exportsTypes));
+    this.isVar[node] = kind === 'VariableDeclaration' ? row[TEXT] === 'var' : PATTERNS.has(kind) && above(this.isVar);
   }
 
   exportsTypesIn(row, above) {
@@ -67,7 +74,7 @@ class Noted {
   }
 }
 
-const SORTS = ['besideInfer', 'inferred', 'inSignature', 'indexParameter', 'inTypeParameters', 'innerFunction', 'exportedType'];
+const SORTS = ['besideInfer', 'inferred', 'inSignature', 'indexParameter', 'inTypeParameters', 'innerFunction', 'exportedType', 'passingVariable'];
 
 function noteReference(noted, around, row, node) {
   const up = around.parents[node];
@@ -84,6 +91,7 @@ function noteBinding(noted, around, row, node) {
   if (rows[up][KIND] === 'Function' && STATEMENTS.has(rows[up][TEXT]) && around.inInnerBlock[outer] && !around.isStrict[outer]) {
     noted.innerFunction.add(row[TEXT], node);
   }
+  if (around.isVar[up] && around.inInnerBlock[up]) noted.passingVariable.add(row[TEXT], node);
   if (rows[up][KIND] === 'TSTypeParameter' && rows[outer][KIND] === 'TSInferType') {
     noted.inferred.add(row[TEXT], node, around.extends[outer]);
     if (!around.inExtends[outer]) noted.besideInfer.add(row[TEXT], node, around.extends[outer]);
@@ -111,6 +119,12 @@ function innerVariables({ symbols }) {
   return new Set(found.map(({ name }) => name));
 }
 
+// The names of variables and parameters that are types as well.
+function typedVariables({ symbols }) {
+  const found = symbols.filter(({ flags }) => flags.includes('FunctionScopedVariable') && flags.some((flag) => TYPES.has(flag)));
+  return new Set(found.map(({ name }) => name));
+}
+
 // The names that several symbols have.
 function sharedNames({ symbols }) {
   const seen = new Set();
@@ -125,6 +139,7 @@ function sharedNames({ symbols }) {
 function typescriptPlaces({ rows, parents, report, isModule }, note) {
   const noted = notedIn(rows, parents, isModule);
   const inner = innerVariables(report);
+  const typed = typedVariables(report);
   const shared = sharedNames(report);
   const noteAll = (reason, found) => found.forEach(({ name, node }) => note(name, reason, { start: rows[node][START], end: rows[node][END] }));
   noteAll('InferredName', noted.besideInfer.metBy(noted.inferred));
@@ -132,6 +147,7 @@ function typescriptPlaces({ rows, parents, report, isModule }, note) {
   noteAll('IndexParameter', noted.inSignature.metBy(noted.indexParameter));
   noteAll('SloppyFunction', noted.innerFunction.all.filter(({ name }) => shared.has(name)));
   noteAll('ExportedType', noted.exportedType.all.filter(({ name }) => shared.has(name)));
+  noteAll('TypedVariable', noted.passingVariable.all.filter(({ name }) => typed.has(name)));
 }
 
-module.exports = { sharedNames, typescriptPlaces };
+module.exports = { TYPES, sharedNames, typescriptPlaces };

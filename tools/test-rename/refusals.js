@@ -103,6 +103,10 @@ module.exports = [
     '`A` can\'t be followed: TypeScript may export another declaration of the name as a type here'],
   ['a.ts', 'declare module "m" { const A: 1; export { type A as B } } type §A = 2', 'C', '1:48',
     '`A` can\'t be followed: TypeScript may export another declaration of the name as a type here'],
+  ['a.ts', '{ { var §Event } type Event = 1 } let b: Event', 'c', '1:9',
+    '`Event` can\'t be followed: TypeScript may see no type of the name where this variable is seen, which passes its block'],
+  ['a.ts', '{ for (var { x: [§Event] } of o) {} interface Event {} } let b: Event', 'c', '1:18',
+    '`Event` can\'t be followed: TypeScript may see no type of the name where this variable is seen, which passes its block'],
   // they don't here: the reasons hold for more
   ['a.ts', 'type M<T> = T extends (infer §U extends L<U>) ? U : 1; type L<T> = T', 'V', '1:42',
     '`U` can\'t be followed: TypeScript sees what `infer` declares in the true part of its conditional type alone'],

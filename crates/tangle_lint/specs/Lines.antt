@@ -26,6 +26,7 @@ reason_name reason.HiddenParameter = codes "HiddenParameter"
 reason_name reason.IndexParameter = codes "IndexParameter"
 reason_name reason.SloppyFunction = codes "SloppyFunction"
 reason_name reason.ExportedType = codes "ExportedType"
+reason_name reason.TypedVariable = codes "TypedVariable"
 
 abbrev pub reason_text : Reason → List ℕ
 reason_text r = codes " " ++ reason_name r

@@ -32,6 +32,7 @@ fn reason_name(reason: Reason) -> &'static str
         Reason::IndexParameter => "IndexParameter",
         Reason::SloppyFunction => "SloppyFunction",
         Reason::ExportedType => "ExportedType",
+        Reason::TypedVariable => "TypedVariable",
     }
 }
 

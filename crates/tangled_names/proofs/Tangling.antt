@@ -102,6 +102,7 @@ module _ (f : NameFacts) (s : SourceType) (ms : List Mention) (t : Tables) where
   told_same a b c d e g h y reason.IndexParameter x = λ i. is_typescript s && y.in_own_index x i
   told_same a b c d e g h y reason.SloppyFunction x = λ i. is_typescript s && y.inner_functions x i && h x i
   told_same a b c d e g h y reason.ExportedType x = λ i. is_typescript s && y.exported_types x i && h x i
+  told_same a b c d e g h y reason.TypedVariable x = λ i. is_typescript s && y.passing_variables x i && y.typed_variables x i
 
   pub found_same : FactsHold f s ms t → tangles_from (λ (x : Name). filter (λ (r : Reason). told_by f s t r x) all_reasons) (λ x. false) 0 t.symbols ≡ tangles_in s ms t
   found_same tells = λ i. tangles_from (λ (x : Name). filter (λ (r : Reason). tells r x i) all_reasons) (λ x. false) 0 t.symbols

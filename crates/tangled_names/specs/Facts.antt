@@ -6,7 +6,7 @@ use Rattle.semantic_syntax.specs.SourceTypes.{is_typescript}
 use Rattle.semantic_syntax.specs.Tables.{Name, Tables}
 use Rattle.semantic_syntax.specs.declared.source_type.SourceType.{SourceType}
 use Rattle.tangle_model.specs.Mention.{Mention}
-use Rattle.tangle_model.specs.Tangled.{holds_in, is_noted_as, any_mention, any_symbol, is_beside_infer, is_in_own_index, is_inner_variable}
+use Rattle.tangle_model.specs.Tangled.{holds_in, is_noted_as, any_mention, any_symbol, is_beside_infer, is_in_own_index, is_inner_variable, is_typed_variable}
 use Rattle.tangle_model.specs.declared.reason.Reason.{Reason}
 use Rattle.tangle_model.specs.declared.reason.Reason.TheVariants as reason
 use Rattle.tangle_model.specs.declared.what.What.TheVariants as what
@@ -29,6 +29,7 @@ facts_tell f s t reason.HiddenParameter name = is_typescript s && has_name f.typ
 facts_tell f s t reason.IndexParameter name = is_typescript s && has_name f.typed.in_own_index name
 facts_tell f s t reason.SloppyFunction name = is_typescript s && has_name f.typed.inner_functions name && has_name f.shared name
 facts_tell f s t reason.ExportedType name = is_typescript s && has_name f.typed.exported_types name && has_name f.shared name
+facts_tell f s t reason.TypedVariable name = is_typescript s && has_name f.typed.passing_variables name && has_name f.typed.typed_variables name
 
 -- what is known of TypeScript's names is what the definitions take from mentions and tables
 pub record TypedHold (f : TypedFacts) (ms : List Mention) (t : Tables) : Type 0 where
@@ -38,6 +39,8 @@ pub record TypedHold (f : TypedFacts) (ms : List Mention) (t : Tables) : Type 0 
   pub inner_variables : (x : Name) → has_name f.inner_variables x ≡ any_symbol is_inner_variable t.symbols x
   pub inner_functions : (x : Name) → has_name f.inner_functions x ≡ is_noted_as what.InnerFunction ms x
   pub exported_types : (x : Name) → has_name f.exported_types x ≡ is_noted_as what.ExportedType ms x
+  pub passing_variables : (x : Name) → has_name f.passing_variables x ≡ is_noted_as what.PassingVariable ms x
+  pub typed_variables : (x : Name) → has_name f.typed_variables x ≡ any_symbol is_typed_variable t.symbols x
 
 -- they tell what holds
 abbrev pub FactsHold : NameFacts → SourceType → List Mention → Tables → Type 0

@@ -119,7 +119,13 @@ impl<'a> MentionPass<'a> {
             name,
         )?;
         self.note_if(is_var && around.in_catch, What::VarInCatch, home, name)?;
-        self.note_if(is_var && around.in_with, What::InWith, home, name)
+        self.note_if(is_var && around.in_with, What::InWith, home, name)?;
+        self.note_if(
+            is_var && around.in_inner_block,
+            What::PassingVariable,
+            home,
+            name,
+        )
     }
 
     /// Notes what is said of the name of a function declaration.

@@ -112,6 +112,11 @@ fn holds(
         Reason::ExportedType => {
             is_typed && facts.typed.exported_types.has_name(name) && facts.shared.has_name(name)
         }
+        Reason::TypedVariable => {
+            is_typed
+                && facts.typed.passing_variables.has_name(name)
+                && facts.typed.typed_variables.has_name(name)
+        }
     }
 }
 
@@ -133,6 +138,7 @@ fn all_reasons() -> &'static [Reason]
         Reason::IndexParameter,
         Reason::SloppyFunction,
         Reason::ExportedType,
+        Reason::TypedVariable,
     ]
 }
 

@@ -1,7 +1,7 @@
 //! What is known of the names of a program of TypeScript beyond.
 ghost use Rattle.std.specs.Prelude.{◌≡◌, map, IfOk};
 ghost use Rattle.semantic_syntax.specs.Tables.{Name};
-ghost use Rattle.tangle_model.specs.Tangled.{any_symbol, is_inner_variable};
+ghost use Rattle.tangle_model.specs.Tangled.{any_symbol, is_inner_variable, is_typed_variable};
 ghost use Rattle.tangled_names.specs.Facts.{TypedHold};
 ghost use Rattle.tangled_names.specs.Gathered.{noted_of};
 ghost use Rattle.tangled_names.specs.Stored.{has_name};
@@ -9,7 +9,7 @@ ghost use Rattle.tangled_names.specs.Stored.{has_name};
 use crate::facts::{met_names, noted_names};
 use crate::key_set::KeySet;
 use crate::mention::Mention;
-use crate::scope_questions::is_inner_variable;
+use crate::scope_questions::{is_inner_variable, is_typed_variable};
 use scoping::Scoping;
 use semantic_syntax::SymbolId;
 use std::alloc::{AllocError, Global};
@@ -24,6 +24,8 @@ pub struct TypedFacts<'a> {
     pub(crate) inner_variables: KeySet<'a>,
     pub(crate) inner_functions: KeySet<'a>,
     pub(crate) exported_types: KeySet<'a>,
+    pub(crate) passing_variables: KeySet<'a>,
+    pub(crate) typed_variables: KeySet<'a>,
 }
 
 /// The names of parameters, and of variables in scopes that aren't the root.
@@ -36,6 +38,21 @@ fn inner_variables(alloc: Global, scoping: &Scoping) -> Result<KeySet<'_>, Alloc
     for number in 0..count {
         let symbol = SymbolId::new(number);
         let is = is_inner_variable(scoping, symbol);
+        names.add_name_if(is, scoping.symbol_name(symbol))?;
+    }
+    Ok(names)
+}
+
+/// The names of variables and parameters that are types as well.
+fn typed_variables(alloc: Global, scoping: &Scoping) -> Result<KeySet<'_>, AllocError>
+    ensures { IfOk result (λ names. (name : Name)
+        → has_name names name ≡ any_symbol is_typed_variable scoping.now.symbols name) }
+{
+    let mut names = KeySet::new(alloc);
+    let count = scoping.symbols_len() as u32;
+    for number in 0..count {
+        let symbol = SymbolId::new(number);
+        let is = is_typed_variable(scoping, symbol);
         names.add_name_if(is, scoping.symbol_name(symbol))?;
     }
     Ok(names)
@@ -62,6 +79,8 @@ impl<'a> TypedFacts<'a> {
         let inner_variables = inner_variables(alloc, scoping)?;
         let inner_functions = noted_names(alloc, mentions, What::InnerFunction)?;
         let exported_types = noted_names(alloc, mentions, What::ExportedType)?;
+        let passing_variables = noted_names(alloc, mentions, What::PassingVariable)?;
+        let typed_variables = typed_variables(alloc, scoping)?;
         Ok(TypedFacts {
             beside_infer,
             in_own_index,
@@ -69,6 +88,8 @@ impl<'a> TypedFacts<'a> {
             inner_variables,
             inner_functions,
             exported_types,
+            passing_variables,
+            typed_variables,
         })
     }
 }

@@ -27,7 +27,7 @@ use Rattle.binding_laws.proofs.ListLaws.{among_filter, of_map, of_flat, each_at}
 use Rattle.binding_laws.proofs.SmallLaws.{never, same_names}
 use Rattle.tangle_model.specs.Mention.{Mention, same_declarer, noted_if, identifier_noted, noted_by, noted_at, mentions}
 use Rattle.tangle_model.specs.Repeated.{same_key, is_mention_of, key_of, keys_of, key_stands}
-use Rattle.tangle_model.specs.Surroundings.{home_under, in_catch_under, in_with_under, declarer_in, declarer_under, around_under}
+use Rattle.tangle_model.specs.Surroundings.{home_under, in_catch_under, in_inner_block_under, in_with_under, declarer_in, declarer_under, around_under}
 use Rattle.tangle_model.specs.Tangled.{meets_catch_name, any_mention}
 use Rattle.tangle_model.specs.declared.around.Around.{Around}
 use Rattle.tangle_model.specs.declared.around.Declarer.{Declarer}
@@ -214,15 +214,20 @@ module _ (p : Tree) (h : first_fault p ≡ None) (e : is_ecmascript p ≡ true) 
     abbrev fourth : List Mention
     fourth = noted_if (same_declarer (declarer_under z.path) declarer.Var && in_with_under z.path) what.InWith (home_under z.path) z.node.text
 
+    abbrev fifth : List Mention
+    fifth = noted_if (same_declarer (declarer_under z.path) declarer.Var && in_inner_block_under z.path) what.PassingVariable (home_under z.path) z.node.text
+
     -- a plain catch name is noted
     name_noted : z.node.kind ≡ kind.BindingIdentifier → Among (entering z) (steps p) → declarer_under z.path ≡ declarer.CatchParameter → Among (as_name z) (mentions p)
     name_noted k a d = identifier_at z k (as_name z)
-        (among_left (as_name z) (first ++ second ++ third) fourth (among_left (as_name z) (first ++ second) third (among_right (as_name z) first second (noted_true (same_declarer (declarer_under z.path) declarer.CatchParameter) (as_name z) (ap (λ i. same_declarer i declarer.CatchParameter) d))))) a
+        (among_left (as_name z) (first ++ second ++ third ++ fourth) fifth
+        (among_left (as_name z) (first ++ second ++ third) fourth (among_left (as_name z) (first ++ second) third (among_right (as_name z) first second (noted_true (same_declarer (declarer_under z.path) declarer.CatchParameter) (as_name z) (ap (λ i. same_declarer i declarer.CatchParameter) d)))))) a
 
     -- so is a `var` in a clause
     variable_noted : z.node.kind ≡ kind.BindingIdentifier → Among (entering z) (steps p) → declarer_under z.path ≡ declarer.Var → in_catch_under z.path ≡ true → Among (as_variable z) (mentions p)
     variable_noted k a d w = identifier_at z k (as_variable z)
-        (among_left (as_variable z) (first ++ second ++ third) fourth (among_right (as_variable z) (first ++ second) third (noted_true (same_declarer (declarer_under z.path) declarer.Var && in_catch_under z.path) (as_variable z) (and_from (same_declarer (declarer_under z.path) declarer.Var) (in_catch_under z.path) (ap (λ i. same_declarer i declarer.Var) d) w)))) a
+        (among_left (as_variable z) (first ++ second ++ third ++ fourth) fifth
+        (among_left (as_variable z) (first ++ second ++ third) fourth (among_right (as_variable z) (first ++ second) third (noted_true (same_declarer (declarer_under z.path) declarer.Var && in_catch_under z.path) (as_variable z) (and_from (same_declarer (declarer_under z.path) declarer.Var) (in_catch_under z.path) (ap (λ i. same_declarer i declarer.Var) d) w))))) a
 
   -- both with one home tangle the name
   met : (name : Name) (y z : Place) → Among (as_variable y) (mentions p) → Among (as_name z) (mentions p) → y.node.text ≡ name → z.node.text ≡ name → home_under y.path ≡ home_under z.path → any_mention (meets_catch_name (mentions p)) (mentions p) name ≡ true

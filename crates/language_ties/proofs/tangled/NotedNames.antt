@@ -148,7 +148,7 @@ module _ (p : Tree) (h : first_fault p ≡ None) (e : is_ecmascript p ≡ true) 
         first = subst (λ t. Among mention (noted_if (not t) what.Declaration (home_under z.place.path) z.place.node.text)) (sym declarer_is) (inl (λ i. record { what = what.Declaration; home = home_under z.place.path; name = named i }))
 
         in_noted : Among mention (identifier_noted (around_under p.source_type z.place.path) z.place.node.text)
-        in_noted = among_left mention _ _ (among_left mention _ _ (among_left mention _ _ first))
+        in_noted = among_left mention _ _ (among_left mention _ _ (among_left mention _ _ (among_left mention _ _ first)))
 
     -- a name that the place binds in the environments around
     plain_case : (b : Bound) (i : Node) → IsNamePlace (steps p) (q.node ∷ q.path) i → i.text ≡ b.name → same_declarer (declarer_under (q.node ∷ q.path)) declarer.Function ≡ false → is_home q.node ≡ false → Ways b → IsNoted p q b
