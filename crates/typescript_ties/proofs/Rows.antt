@@ -250,9 +250,9 @@ passed_types_a_parts : parting_uses passed_types (codes "a") ≡ 16 ∷ []
 unfolding encode chars
 passed_types_a_parts = refl
 
-passed_types_a_untangled : tangle_reasons passed_types (codes "a") ≡ []
+passed_types_a_tangled : tangle_reasons passed_types (codes "a") ≡ reason.TypedVariable ∷ []
 unfolding encode chars
-passed_types_a_untangled = refl
+passed_types_a_tangled = refl
 
 -- a function expression has its name inside of it
 own_names_meant : map meant_identifiers (resolved_uses own_names) ≡ (12, 8 ∷ []) ∷ []
