@@ -51,6 +51,7 @@ use Rattle.typescript_ties.specs.declared.declaration_sort.DeclarationSort.TheVa
 use Rattle.binding_laws.proofs.ChildChains.{ChainOf, outer_chain, inner_chain, OwnOf, own_of}
 use Rattle.typescript_ties.proofs.ChildPlaces.{tells_inside, told_by_kind, tree_tells, tells_header, tree_headed}
 use Rattle.binding_laws.proofs.EnteredOnce.{entered_once}
+use Rattle.binding_laws.proofs.ListLaws.{filter_among, among_filter}
 use Rattle.typescript_ties.proofs.FitsTogether.{any_meets, AreBoundAs, bound_as_one, is_asked, WayAsks, way_asks}
 use Rattle.typescript_ties.proofs.HeadPlaces.{IsCommonPlace, CommonStep, common_places, round_place}
 use Rattle.typescript_ties.proofs.GroupNodes.{stands_by}
@@ -60,34 +61,14 @@ use Rattle.typescript_ties.proofs.Pairs.{container_kind_is}
 use Rattle.typescript_ties.proofs.PastParameters.{is_parameter_named, is_past_parameter}
 use Rattle.typescript_ties.proofs.ScopeMembers.{IsHidden, SeenAs, seen_as, free_in, SeenToo, seen_too}
 use Rattle.binding_laws.proofs.ScopeOpeners.{openers, IsOpened, AllOpened, IsPlaceOpened, places_opened, root_opener}
+use Rattle.binding_laws.proofs.SmallLaws.{never}
 use Rattle.typescript_ties.proofs.OutsidePlaces.{decorated, plain_round, plain_chain, decorator_has, child_out}
 use Rattle.typescript_ties.proofs.ParameterLists.{is_list_kind, tells_parameters, tree_parameters}
 use Rattle.typescript_ties.proofs.SimpleOnes.{is_not_apart}
 use Rattle.typescript_ties.proofs.SimpleDeclarations.{IsBoth, of_language, made_so, one_symbol}
 use Rattle.typescript_ties.proofs.UndeclaredFree.{OfEntered, IsEnteredIn, all_entered}
 
-never : true ≡ false → ⊥
-never h = absurd cc
-
 -- ---- lists
-
-pub among_filter : {A : Type 0} → (test : A → Bool) (xs : List A) (x : A) → Among x (filter test xs) → Among x xs × (test x ≡ true)
-among_filter test [] x a = absurd a
-among_filter test (y ∷ xs) x a = go (test y) refl (among_filter test xs x) a
-  where
-    go : (b : Bool) → test y ≡ b → (Among x (filter test xs) → Among x xs × (test x ≡ true)) → Among x (cond b (y ∷ filter test xs) (filter test xs)) → Among x (y ∷ xs) × (test x ≡ true)
-    go true e f (inl i) = (inl i, subst (λ z. test z ≡ true) i e)
-    go true e f (inr b) = let (c, d) = f b in (inr c, d)
-    go false e f b = let (c, d) = f b in (inr c, d)
-
-pub filter_among : {A : Type 0} → (test : A → Bool) (xs : List A) (x : A) → Among x xs → test x ≡ true → Among x (filter test xs)
-filter_among test [] x a e = absurd a
-filter_among test (y ∷ xs) x (inl i) e = rw (subst (λ z. test z ≡ true) (sym i) e) (inl i)
-filter_among test (y ∷ xs) x (inr a) e = go (test y) (filter_among test xs x a e)
-  where
-    go : (b : Bool) → Among x (filter test xs) → Among x (cond b (y ∷ filter test xs) (filter test xs))
-    go true c = inr c
-    go false c = c
 
 pub any_among : {A : Type 0} → (test : A → Bool) (xs : List A) → list_any test xs ≡ true → (x : A) × Among x xs × (test x ≡ true)
 any_among test [] e = absurd (never (sym e))
@@ -268,7 +249,7 @@ module _ (p : Tree) (h : first_fault p ≡ None) (common : is_common p ≡ true)
   nothing_aside d aside asked index = elim (cases_Bool (has_it ns asked x d)) [
     | inr e ↦ e
     | inl e ↦ (let (n, a, i) = any_among (has_meaning asked) (declarations_in ns d x) e in
-        let (b, j) = among_filter (has_declared d x) ns n a in
+        let (b, j) = filter_among (has_declared d x) ns n a in
         elim (cases_Bool (is_sort sort.IndexParameter n)) [
           | inl o ↦ absurd (never (sym i ∙ index n b j o))
           | inr o ↦ absurd (none n b j o)
@@ -313,7 +294,7 @@ module _ (p : Tree) (h : first_fault p ≡ None) (common : is_common p ≡ true)
     Seen' m = SeenAs p h common typed numbered x simply alone q entered k r node text tells headed inside s opener header opened c c_entered c_round m
 
     of_seen : (m : Made) → Among m seen → Seen' m
-    of_seen m a = let (b, e) = among_filter (is_seen_from s x) (made_of p) m a in seen_as p h common typed numbered x simply alone q entered k r node text tells headed inside s opener header opened c c_entered c_round m b e
+    of_seen m a = let (b, e) = filter_among (is_seen_from s x) (made_of p) m a in seen_as p h common typed numbered x simply alone q entered k r node text tells headed inside s opener header opened c c_entered c_round m b e
 
     abbrev Hidden : NamedDeclaration → Type 0
     Hidden n = IsHidden p h common typed numbered x simply alone q entered k r node text tells headed inside s opener header opened c c_entered c_round n
@@ -325,22 +306,22 @@ module _ (p : Tree) (h : first_fault p ≡ None) (common : is_common p ≡ true)
     meant_other : (d : Container) → Among d group → (n : NamedDeclaration) → Among n (declarations_in ns d x) → has_meaning asked n ≡ true → is_sort sort.IndexParameter n ≡ false
     meant_other d b n a g = elim (cases_Bool (is_sort sort.IndexParameter n)) [
       | inr i ↦ i
-      | inl i ↦ (let (j, e) = among_filter (has_declared d x) ns n a in absurd (never (sym g ∙ index_means_none q node asked no_value d (stands_by p.source_type q.node node q.path (round_place p q) q.node.kind d b) n j e i)))
+      | inl i ↦ (let (j, e) = filter_among (has_declared d x) ns n a in absurd (never (sym g ∙ index_means_none q node asked no_value d (stands_by p.source_type q.node node q.path (round_place p q) q.node.kind d b) n j e i)))
     ]
 
     beside_other : (d : Container) → Among d group → (n m : NamedDeclaration) → Among n (declarations_in ns d x) → is_sort sort.IndexParameter n ≡ false → Among m (declarations_in ns d x) → is_sort sort.IndexParameter m ≡ false
     beside_other d b n m a other o = elim (cases_Bool (is_sort sort.IndexParameter m)) [
       | inr i ↦ i
-      | inl i ↦ (let (j, e) = among_filter (has_declared d x) ns n a in
-          let (l, f) = among_filter (has_declared d x) ns m o in
+      | inl i ↦ (let (j, e) = filter_among (has_declared d x) ns n a in
+          let (l, f) = filter_among (has_declared d x) ns m o in
           absurd (never (sym (ap is_apart (index_kind d m l f i)) ∙ free_in p h common typed numbered x simply alone q entered k r node text tells headed inside s opener header opened c c_entered c_round n j other d b e)))
     ]
 
     of_declared : (d : Container) → Among d group → (n : NamedDeclaration) → Among n (declarations_in ns d x) → is_sort sort.IndexParameter n ≡ false → Too n
-    of_declared d b n a other = let (i, e) = among_filter (has_declared d x) ns n a in seen_too p h common typed numbered x simply alone q entered k r node text tells headed inside s opener header opened c c_entered c_round n i other d b e
+    of_declared d b n a other = let (i, e) = filter_among (has_declared d x) ns n a in seen_too p h common typed numbered x simply alone q entered k r node text tells headed inside s opener header opened c c_entered c_round n i other d b e
 
     too_among : (n : NamedDeclaration) (t : Too n) → Among t.made seen
-    too_among n t = filter_among (is_seen_from s x) (made_of p) t.made t.among t.seen
+    too_among n t = among_filter (is_seen_from s x) (made_of p) t.made t.among t.seen
 
     -- the meanings of a declaration, by its flags
     meaning_is : (m : Made) (n : NamedDeclaration) → Both m n → is_asked asked m.declaration.naming.flags ≡ has_meaning asked n
@@ -388,7 +369,7 @@ module _ (p : Tree) (h : first_fault p ≡ None) (common : is_common p ≡ true)
       all_one m a =
           let b : Seen' m = of_seen m (subst (Among m) (sym is_seen) a) in
           let f : Seen' first = of_seen first (subst (Among first) (sym is_seen) (inl refl)) in
-          one_symbol p h common typed numbered x simply m first (among_filter (is_seen_from s x) (made_of p) m (subst (Among m) (sym is_seen) a)).0 (among_filter (is_seen_from s x) (made_of p) first (subst (Among first) (sym is_seen) (inl refl))).0 b.name f.name (b.number ∙ sym f.number)
+          one_symbol p h common typed numbered x simply m first (filter_among (is_seen_from s x) (made_of p) m (subst (Among m) (sym is_seen) a)).0 (filter_among (is_seen_from s x) (made_of p) first (subst (Among first) (sym is_seen) (inl refl))).0 b.name f.name (b.number ∙ sym f.number)
 
       together : AreBoundAs (first ∷ more) first.symbol
       together = bound_as_one first more first.symbol all_one
@@ -476,7 +457,7 @@ module _ (p : Tree) (h : first_fault p ≡ None) (common : is_common p ≡ true)
         | inr i ↦ i
         | inl i ↦ (let (m, a, g) = any_among (λ y. meets y.declaration.naming.flags symbol.AsNamespace.bits) seen (sym (any_is symbol.AsNamespace.bits) ∙ e) in
             let b : Seen' m = of_seen m a in
-            let before : is_before_body s.number x m ≡ true = sym (ap (λ t. cond t (is_before_body s.number x m) (is_in_scope s.number x m)) i) ∙ (among_filter (is_seen_from s x) (made_of p) m a).1 in
+            let before : is_before_body s.number x m ≡ true = sym (ap (λ t. cond t (is_before_body s.number x m) (is_in_scope s.number x m)) i) ∙ (filter_among (is_seen_from s x) (made_of p) m a).1 in
             let headed : (m.declaration.route.target.in_header || is_own_name m.declaration) ≡ true = and_second (m.declaration.route.target.number == s.number) (m.declaration.route.target.in_header || is_own_name m.declaration) (and_first (stands_before_body s.number m.declaration) (bytes_eq m.declaration.naming.name x) before) in
             let unheaded : m.declaration.route.target.in_header ≡ false = b.both.pair.home.unheaded (sym b.both.pair.flags.namespace ∙ g) in
             let no_own : is_own_name m.declaration ≡ false = elim b.both.pair.own [
@@ -511,8 +492,8 @@ module _ (p : Tree) (h : first_fault p ≡ None) (common : is_common p ≡ true)
             number = first.symbol;
             flags = F;
             made = first;
-            among = (among_filter (is_seen_from s x) (made_of p) first a).0;
-            in_it = (among_filter (is_in_scope s.number x) (made_of p) first (subst (Among first) in_scope a)).1;
+            among = (filter_among (is_seen_from s x) (made_of p) first a).0;
+            in_it = (filter_among (is_in_scope s.number x) (made_of p) first (subst (Among first) in_scope a)).1;
             is = refl;
             bound = ap bound_by_all (sym in_scope) ∙ bound_is;
             any = λ m. any_is m ∙ ap (any_meets m) in_scope;
@@ -526,7 +507,7 @@ module _ (p : Tree) (h : first_fault p ≡ None) (common : is_common p ≡ true)
               | inl i ↦ inr (record {
                 free = next_if_unusable x w no_arguments s.number s.flags first.symbol F (map (asked_together p x) q.chain) f ∙ ap (looked_up w) (at_top i.1);
                 made = first;
-                among = (among_filter (is_seen_from s x) (made_of p) first a).0;
+                among = (filter_among (is_seen_from s x) (made_of p) first a).0;
                 named = b.name;
               })
             ]
@@ -546,7 +527,7 @@ module _ (p : Tree) (h : first_fault p ≡ None) (common : is_common p ≡ true)
         | inl f ↦ elim (cases_Bool (is_usable w F)) [
           | inl u ↦ (let (m, a, g) = asked_down (asks.found u) in
               let b : Seen' m = of_seen m a in
-              let has : has_it ns asked x b.named.container ≡ true = any_there (has_meaning asked) (declarations_in ns b.named.container x) b.named (filter_among (has_declared b.named.container x) ns b.named b.both.named b.has) (sym (meaning_is m b.named b.both) ∙ g) in
+              let has : has_it ns asked x b.named.container ≡ true = any_there (has_meaning asked) (declarations_in ns b.named.container x) b.named (among_filter (has_declared b.named.container x) ns b.named b.both.named b.has) (sym (meaning_is m b.named b.both) ∙ g) in
               elim b.there [
                 | inl z ↦ absurd (never (sym has ∙ f.1 b.named.container z))
                 | inr z ↦ absurd (never (sym (sym (meaning_is m b.named b.both) ∙ g) ∙ hidden_means_none b.named z (past_here b.named b.both.named b.both.named_so z)))
@@ -668,7 +649,7 @@ module _ (p : Tree) (h : first_fault p ≡ None) (common : is_common p ≡ true)
       by false e = inl refl
       by true e =
           let (n, a, i) = any_among (has_meaning asked) (declarations_in ns no_container x) e in
-          let (b, j) = among_filter (has_declared no_container x) ns n a in
+          let (b, j) = filter_among (has_declared no_container x) ns n a in
           let (d, both) = of_language p h common typed numbered x simply n b (named_x no_container n j) (no_index n b j) in
           let (y, made) = made_so p h common typed numbered x simply d both.among in
           inr (inr (record { free = refl; made = record { declaration = d; symbol = y }; among = made; named = ap (λ t. t.name) both.told ∙ both.named_so }))

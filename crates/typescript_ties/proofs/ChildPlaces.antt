@@ -2,7 +2,7 @@
 use Rattle.std.proofs.Common.{◌≡◌, ℕ, List, [], ◌∷◌, None, Bool, true, false, ◌||◌, not, cond, refl, sym, ap, subst, ◌∙◌, inl, inr}
 use Rattle.std.specs.List.{list_all}
 use Rattle.std.proofs.lemmas.Bool.{cases_Bool}
-use Rattle.semantic_syntax.proofs.Truth.{and_first, and_second}
+use Rattle.semantic_syntax.proofs.Truth.{and_first, and_second, or_true}
 use Rattle.semantic_kinds.specs.Classes.{is_of, holds_kind}
 use Rattle.semantic_kinds.specs.Kinds.{same_kind}
 use Rattle.semantic_kinds.specs.Parts.{parts}
@@ -93,10 +93,6 @@ by_truth true true c f g = f refl
 by_truth true false c f g = ap not (g refl)
 by_truth false true c f g = ap not (g refl)
 by_truth false false c f g = ap (λ d. not (not d)) (f refl)
-
-or_true : (b : Bool) → (b || true) ≡ true
-or_true true = refl
-or_true false = refl
 
 part_tells : (k : AstType) (part : Part) (k2 : AstType) (text : List ℕ) → tells_part k text part ≡ true → is_of part.class k2 text ≡ true → tells_inside k part.role k2 text ≡ true
 unfolding tells_part

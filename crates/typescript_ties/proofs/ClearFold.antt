@@ -1,7 +1,7 @@
 -- Through all events, what a scope binds to a name whose variables pass no scope that has it is like what its declarations there bind together.
 use Rattle.std.proofs.Common.{◌≡◌, ℕ, ◌<◌, ◌==◌, List, [], ◌∷◌, ◌++◌, Option, Some, None, Bool, true, false, ◌&&◌, ◌||◌, cond, inl, inr, ◌⊎◌, refl, sym, ap, subst, ◌∙◌, length, filter, map, option_map, bytes_eq, arith}
 use Rattle.std.specs.Prelude.{slice_get}
-use Rattle.std.proofs.lemmas.Bool.{cases_Bool, ne_eqb, eq-eqb, and_from, and_left, and_right}
+use Rattle.std.proofs.lemmas.Bool.{cases_Bool, ne_eqb, eq-eqb, and_from, and_left, and_right, or_parts}
 use Rattle.std.proofs.lemmas.Bool.Decides.{eqb_tells}
 use Rattle.semantic_syntax.specs.Members.{contains}
 use Rattle.semantic_syntax.specs.declared.symbol_flags.TheConstants.SymbolFlags as symbol
@@ -33,10 +33,8 @@ use Rattle.typescript_ties.proofs.FitsTogether.{meets_union}
 use Rattle.typescript_ties.proofs.LikeFlags.{IsVariable, FlagsAlike, SeenAlike, alike_equal, alike_none, none_alike, one_more, variable_adds_none}
 use Rattle.typescript_ties.proofs.MadeOnce.{IsMadeOnce, not_yet}
 use Rattle.binding_laws.proofs.OtherNames.{LeavesName, leaves_name}
+use Rattle.binding_laws.proofs.SmallLaws.{never}
 use Rattle.typescript_ties.proofs.PlainFold.{filter_none, seen_with, or_none, seen_nothing, bound_made, bound_below, count_more, count_same}
-
-never : true ≡ false → ⊥
-never h = absurd cc
 
 -- as `var` declares it, past no scope where the name is declared, or plainly; not by a catch clause, and as a function's own name where its scope has no other
 pub record IsClearDeclaration (ds : List Declaration) (d : Declaration) : Type 0 where
@@ -385,15 +383,11 @@ module _ (table : List (Option ℕ)) (v : ℕ → ℕ) (ds : List Declaration) w
     AllPassed [] = Unit {0}
     AllPassed (c ∷ cs) = ((v c.number ≡ goal) × Untargeted y c.number) × AllPassed cs
 
-    or_both : (a b : Bool) → (a || b) ≡ false → (a ≡ false) × (b ≡ false)
-    or_both true b i = absurd (never i)
-    or_both false b i = (refl, i)
-
     all_passed : (cs : List OpenScope) → AllLead v table cs goal → ((e : Declaration) → Among e ds → e.naming.name ≡ y → contains (map (λ s. s.number) cs) e.route.target.number ≡ false) → AllPassed cs
     all_passed [] l f = tt
     all_passed (c ∷ cs) l f = (
-      (l.0.near, λ e a n q. never (sym (eq-eqb c.number e.route.target.number (sym q)) ∙ (or_both (c.number == e.route.target.number) (contains (map (λ s. s.number) cs) e.route.target.number) (f e a n)).0)),
-      all_passed cs l.1 (λ e a n. (or_both (c.number == e.route.target.number) (contains (map (λ s. s.number) cs) e.route.target.number) (f e a n)).1),
+      (l.0.near, λ e a n q. never (sym (eq-eqb c.number e.route.target.number (sym q)) ∙ (or_parts (c.number == e.route.target.number) (contains (map (λ s. s.number) cs) e.route.target.number) (f e a n)).0)),
+      all_passed cs l.1 (λ e a n. (or_parts (c.number == e.route.target.number) (contains (map (λ s. s.number) cs) e.route.target.number) (f e a n)).1),
     )
 
     passed : AllPassed d.route.passed

@@ -22,6 +22,7 @@ use Rattle.semantic_model.specs.Place.{Place, OpenScope}
 use Rattle.semantic_model.specs.ScopeKind.{opened_scope}
 use Rattle.semantic_model.specs.Step.{Step, entering, opening, header_ending, closing, leaving, steps}
 use Rattle.std.proofs.lemmas.List.{append-nil, map-append}
+use Rattle.binding_laws.proofs.ListLaws.{each_map}
 use Rattle.typescript_ties.specs.Containers.{Container, container_of, bound_container, containers}
 use Rattle.typescript_ties.specs.DeclaredNames.{NamedIdentifier, told_to_tables, told_by_language, NamesAsDeclared, NamesAreDeclared}
 use Rattle.typescript_ties.specs.NamedDeclarations.{NamedDeclaration, named_declaration, declared_here, imported_as, imported_here, declared_outward, variables_named, leaves_its_block, namespace_sort, first_condition, named_by_node}
@@ -166,10 +167,6 @@ named_step s (opening p o) k = tt
 named_step s (header_ending p o) k = tt
 named_step s (closing p o) k = tt
 named_step s (leaving p) k = tt
-
-pub each_map : (P Q : Step → Type 0) → ((st : Step) → P st → Q st) → (ss : List Step) → EachStep P ss → EachStep Q ss
-each_map P Q f [] h = tt
-each_map P Q f (s ∷ ss) h = (f s h.0, each_map P Q f ss h.1)
 
 pub names_are_declared : (p : Tree) → first_fault p ≡ None → NamesAreDeclared p
 names_are_declared p h = each_map KnownStep (NamesAsDeclared p.source_type) (named_step p.source_type) (steps p) (known_places p h)

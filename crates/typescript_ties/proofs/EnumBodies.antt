@@ -40,10 +40,9 @@ use Rattle.semantic_model.proofs.steps.EachStep.{EachOfTurn, each_left, each_of_
 use Rattle.semantic_model.proofs.steps.Turn.{Turn, turn_at}
 use Rattle.semantic_model.proofs.steps.TurnCases.{opening_case, ending_case, last_case}
 use Rattle.walk_model.proofs.places.Shapes.{holds_below, tree_holds}
-use Rattle.typescript_ties.proofs.UndeclaredFree.{OfEntered, IsEnteredIn, all_entered, each_among}
-
-never : true ≡ false → ⊥
-never h = absurd cc
+use Rattle.binding_laws.proofs.ListLaws.{each_at}
+use Rattle.binding_laws.proofs.SmallLaws.{never}
+use Rattle.typescript_ties.proofs.UndeclaredFree.{OfEntered, IsEnteredIn, all_entered}
 
 -- ---- the shape
 
@@ -201,7 +200,7 @@ module _ (p : Tree) where
 
   pub enum_of : first_fault p ≡ None → (q : Place) → Among (entering q) (steps p) → q.node.kind ≡ kind.TSEnumBody → (y : Node) (path : List Node) → q.path ≡ y ∷ path → IsEnumOf q y
   enum_of h q a k y path e =
-      let parent : HasParent q y path = each_among ParentAt (steps p) (entering q) (parents_program h) a y path e in
+      let parent : HasParent q y path = each_at ParentAt (steps p) (entering q) (parents_program h) a y path e in
       let both : (same_kind y.kind kind.TSEnumDeclaration && same_role q.role role.Body) ≡ true = subst (λ j. (not (same_kind j kind.TSEnumBody) || (same_kind y.kind kind.TSEnumDeclaration && same_role q.role role.Body)) ≡ true) k
       (and_first (not (same_kind q.node.kind kind.TSEnumBody) || (same_kind y.kind kind.TSEnumDeclaration && same_role q.role role.Body)) (not (same_kind q.node.kind kind.TSIndexSignatureName) || same_kind y.kind kind.TSIndexSignature) parent.shape) in
       let is_enum : y.kind ≡ kind.TSEnumDeclaration = kind_is y.kind kind.TSEnumDeclaration (and_first (same_kind y.kind kind.TSEnumDeclaration) (same_role q.role role.Body) both) in
@@ -218,7 +217,7 @@ module _ (p : Tree) where
   -- the signature of an index parameter
   pub index_parent : first_fault p ≡ None → (q : Place) → Among (entering q) (steps p) → q.node.kind ≡ kind.TSIndexSignatureName → (y : Node) (path : List Node) → q.path ≡ y ∷ path → y.kind ≡ kind.TSIndexSignature
   index_parent h q a k y path e =
-      let parent : HasParent q y path = each_among ParentAt (steps p) (entering q) (parents_program h) a y path e in
+      let parent : HasParent q y path = each_at ParentAt (steps p) (entering q) (parents_program h) a y path e in
       kind_is y.kind kind.TSIndexSignature (subst (λ j. (not (same_kind j kind.TSIndexSignatureName) || same_kind y.kind kind.TSIndexSignature) ≡ true) k
       (and_second (not (same_kind q.node.kind kind.TSEnumBody) || (same_kind y.kind kind.TSEnumDeclaration && same_role q.role role.Body)) (not (same_kind q.node.kind kind.TSIndexSignatureName) || same_kind y.kind kind.TSIndexSignature) parent.shape))
 
@@ -231,5 +230,5 @@ module _ (p : Tree) where
 
   pub above_of : first_fault p ≡ None → (q : Place) → Among (entering q) (steps p) → (y : Node) (path : List Node) → q.path ≡ y ∷ path → IsAbove y path
   above_of h q a y path e =
-      let parent : HasParent q y path = each_among ParentAt (steps p) (entering q) (parents_program h) a y path e in
+      let parent : HasParent q y path = each_at ParentAt (steps p) (entering q) (parents_program h) a y path e in
       record { place = parent.place; entered = parent.entered; node = parent.node; above = parent.above }

@@ -5,7 +5,7 @@ use Rattle.std.specs.Int.RustNames.{bit_and}
 use Rattle.std.proofs.lemmas.Bool.{cases_Bool, eq-eqb, not-true}
 use Rattle.std.proofs.lemmas.Bool.Decides.{eqb_tells}
 use Rattle.std.proofs.lemmas.Nat.{and_comm, and_or_apart}
-use Rattle.semantic_syntax.proofs.Truth.{and_first, and_second}
+use Rattle.semantic_syntax.proofs.Truth.{and_first, and_second, or_true}
 use Rattle.semantic_syntax.specs.Sets.{meets, union}
 use Rattle.semantic_syntax.specs.Usable.{asks_for_namespace, is_usable}
 use Rattle.semantic_syntax.specs.declared.reference_flags.TheConstants.ReferenceFlags as way
@@ -14,15 +14,9 @@ use Rattle.semantic_model.specs.Entries.{Among}
 use Rattle.semantic_model.specs.Fold.{Made}
 use Rattle.binding_laws.specs.SeenDeclarations.{seen_alone, with_declaration, bound_by_all}
 use Rattle.binding_laws.proofs.Growing.{meets_second}
+use Rattle.binding_laws.proofs.SmallLaws.{never}
 use Rattle.typescript_ties.specs.MeaningSets.{MeaningSet}
 use Rattle.typescript_ties.specs.SimpleNames.{is_way_by, is_way_of}
-
-never : true ≡ false → ⊥
-never h = absurd cc
-
-or_true : (b : Bool) → (b || true) ≡ true
-or_true true = refl
-or_true false = refl
 
 or_false : (b : Bool) → (b || false) ≡ b
 or_false true = refl

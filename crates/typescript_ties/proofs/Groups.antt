@@ -11,14 +11,12 @@ use Rattle.semantic_tree.specs.Views.{is, child_of, is_child_in}
 use Rattle.semantic_tree.specs.declared.node.Node.{Node}
 use Rattle.semantic_model.specs.Entries.{Among}
 use Rattle.semantic_model.specs.Inside.{is_inside}
+use Rattle.binding_laws.proofs.SmallLaws.{never}
 use Rattle.typescript_ties.specs.Containers.{Container, same_container_kind, is_container, container_of, bound_container, members_of, id_name, module_member_name, enum_members, is_exported_under, is_one_of_kind, is_of_signature, parameter_containers, function_containers, containers_by}
 use Rattle.typescript_ties.specs.SimpleNames.{is_apart}
 use Rattle.typescript_ties.specs.declared.container_kind.ContainerKind.TheVariants as container
 use Rattle.typescript_ties.proofs.ChildPlaces.{is_told_by_role, tells_by_kind, is_function}
 use Rattle.typescript_ties.proofs.Heads.{is_of_header, inside_is}
-
-never : true ≡ false → ⊥
-never h = absurd cc
 
 -- what is known of a container that a node of the kind has round one child, for another one
 pub record GroupMember (k : AstType) (x ch : Node) (sibling : Node) (g : List Container) (c : Container) : Type 0 where

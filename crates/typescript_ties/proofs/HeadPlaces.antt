@@ -31,6 +31,7 @@ use Rattle.typescript_ties.specs.Containers.{Container, is_container, bound_cont
 use Rattle.typescript_ties.specs.SimpleNames.{is_apart, is_common_child, is_common_forest, is_common}
 use Rattle.typescript_ties.specs.declared.container_kind.ContainerKind.TheVariants as container
 use Rattle.binding_laws.proofs.ChildChains.{ChainOf, outer_chain, inner_chain, OwnOf, own_of}
+use Rattle.binding_laws.proofs.SmallLaws.{never}
 use Rattle.typescript_ties.proofs.ChildPlaces.{same_truth, is_function, tells_inside, told_by_kind, tree_tells, tells_header, tree_headed}
 use Rattle.typescript_ties.proofs.GroupNodes.{stands_by}
 use Rattle.typescript_ties.proofs.Heads.{is_of_header, HeadOf, head_of}
@@ -38,9 +39,6 @@ use Rattle.typescript_ties.proofs.OutsidePlaces.{decorated, plain_round, plain_c
 use Rattle.typescript_ties.proofs.ParameterLists.{is_parameter_kind, is_list_kind, tells_decorator, stands_in_list, stands_deeper, tells_parameters, tree_parameters, AllBefore, before_later, before_append, outside_before}
 use Rattle.typescript_ties.proofs.UndeclaredFree.{OfEntered, IsEnteredIn, all_entered}
 use Rattle.typescript_ties.proofs.Unheaded.{is_unheaded, stands_unheaded, tree_unheaded, child_unheaded}
-
-never : true ≡ false → ⊥
-never h = absurd cc
 
 -- no type parameters on the way to a node stand directly in the program
 abbrev pub AreDeep : Node → List Node → Type 0

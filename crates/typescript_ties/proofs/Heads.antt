@@ -11,13 +11,11 @@ use Rattle.semantic_tree.specs.Views.{is, child_of, is_child_in}
 use Rattle.semantic_tree.specs.declared.node.Node.{Node}
 use Rattle.semantic_model.specs.Entries.{Among}
 use Rattle.semantic_model.specs.Inside.{is_inside}
+use Rattle.binding_laws.proofs.SmallLaws.{never}
 use Rattle.typescript_ties.specs.Containers.{Container, is_container, container_of, bound_container, members_of, id_name, module_member_name, enum_members, is_exported_under, is_one_of_kind, is_of_signature, parameter_containers, function_containers, containers_by}
 use Rattle.typescript_ties.specs.SimpleNames.{is_apart}
 use Rattle.typescript_ties.specs.declared.container_kind.ContainerKind.TheVariants as container
 use Rattle.typescript_ties.proofs.ChildPlaces.{same_truth, is_told_by_role, tells_by_kind, is_function}
-
-never : true ≡ false → ⊥
-never h = absurd cc
 
 -- the first that isn't a block's own takes all
 pub head_one : (b : Bool) (c : Container) (cs : List Container) → is_container container.ModuleBlock c ≡ false → bound_container b (c ∷ cs) ≡ c

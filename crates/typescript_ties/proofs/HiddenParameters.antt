@@ -33,6 +33,7 @@ use Rattle.semantic_model.proofs.form.Shape.{has_form}
 use Rattle.semantic_model.proofs.lists.BindingLaws.{get_among}
 use Rattle.semantic_model.proofs.lists.Members.{among_at, among_left, among_right}
 use Rattle.semantic_model.proofs.once.ListedUnder.{name_tells}
+use Rattle.binding_laws.proofs.ListLaws.{filter_among, among_filter, of_flat, each_at}
 use Rattle.binding_laws.specs.SeenDeclarations.{bound_by_all}
 use Rattle.tangle_model.specs.Mention.{Mention, noted_if, noted_by, noted_at, mentions}
 use Rattle.tangle_model.specs.Repeated.{is_mention_of}
@@ -46,22 +47,15 @@ use Rattle.typescript_ties.specs.SeenTogether.{is_in_scope}
 use Rattle.typescript_ties.specs.SimpleNames.{is_common, IsSimplyDeclared}
 use Rattle.typescript_ties.specs.contracts.declaration_sort.DeclarationSort.{the_type as the_sorts}
 use Rattle.typescript_ties.specs.declared.declaration_sort.DeclarationSort.TheVariants as sort
-use Rattle.typescript_ties.proofs.AgreedPlaces.{among_filter, filter_among, any_among, any_there}
+use Rattle.typescript_ties.proofs.AgreedPlaces.{any_among, any_there}
 use Rattle.typescript_ties.proofs.FitsTogether.{AreBoundAs, bound_as_one}
 use Rattle.typescript_ties.proofs.HeadPlaces.{AreDeep, CommonStep, common_places}
 use Rattle.typescript_ties.proofs.LikeFlags.{SeenAlike}
 use Rattle.typescript_ties.proofs.MergedBlocks.{opened_node}
 use Rattle.typescript_ties.proofs.PastParameters.{is_parameter_named, is_past_parameter, AsksPastNoParameter}
 use Rattle.binding_laws.proofs.ScopeOpeners.{root_opener}
-use Rattle.typescript_ties.proofs.SimpleDeclarations.{flat_among, of_language, made_so, clear_state}
-use Rattle.typescript_ties.proofs.UndeclaredFree.{each_among}
-
-never : true ≡ false → ⊥
-never h = absurd cc
-
-implied : (a b : Bool) → (not a || b) ≡ true → a ≡ true → b ≡ true
-implied true b h e = h
-implied false b h e = absurd (never (sym e))
+use Rattle.binding_laws.proofs.SmallLaws.{never, implied}
+use Rattle.typescript_ties.proofs.SimpleDeclarations.{of_language, made_so, clear_state}
 
 -- ---- where such a reference stands
 
@@ -116,7 +110,7 @@ module _ (p : Tree) (h : first_fault p ≡ None) (common : is_common p ≡ true)
   -- the symbol of a parameter is a variable, and none of the program's scope
   parameter_noted : (n : NamedDeclaration) → Among n (named_in p) → n.sort ≡ sort.Parameter → n.name ≡ x → (n.container.node ≡ 0 → ⊥) → any_symbol is_inner_variable (tables_of p).symbols x ≡ true
   parameter_noted n a is_parameter e inner =
-      let (d, both) = of_language p h common typed numbered x simply n a e in
+      let (d, both) = of_language p h common typed numbered x simply n a e (ap (λ t. same_sort t sort.IndexParameter) is_parameter) in
       let (y, made) = made_so p h common typed numbered x simply d both.among in
       let c : ℕ = d.route.target.number in
       let named : d.naming.name ≡ x = ap (λ t. t.name) both.told ∙ e in
@@ -140,14 +134,14 @@ module _ (p : Tree) (h : first_fault p ≡ None) (common : is_common p ≡ true)
           m = record { declaration = d; symbol = y }
 
           own : Among m (filter (is_in_scope c x) (made_of p))
-          own = filter_among (is_in_scope c x) (made_of p) m made (and_from (c == c) (bytes_eq d.naming.name x) (eq-eqb c c refl) (elim (name_tells d.naming.name x) [ inl j ↦ j.0 | inr j ↦ absurd (j.1 named) ]))
+          own = among_filter (is_in_scope c x) (made_of p) m made (and_from (c == c) (bytes_eq d.naming.name x) (eq-eqb c c refl) (elim (name_tells d.naming.name x) [ inl j ↦ j.0 | inr j ↦ absurd (j.1 named) ]))
 
           some_is : (a b : ℕ) → Some a ≡ Some b → a ≡ b
           some_is a b i = cc
 
           all_one : (z : Made) → Among z (filter (is_in_scope c x) (made_of p)) → z.symbol ≡ y
           all_one z b =
-              let (i, j) = among_filter (is_in_scope c x) (made_of p) z b in
+              let (i, j) = filter_among (is_in_scope c x) (made_of p) z b in
               let number : z.declaration.route.target.number ≡ c = elim (eqb_tells z.declaration.route.target.number c) [ inl k ↦ k.1 | inr k ↦ absurd (never (sym (and_first (z.declaration.route.target.number == c) (bytes_eq z.declaration.naming.name x) j) ∙ k.0)) ] in
               let z_named : z.declaration.naming.name ≡ x = elim (name_tells z.declaration.naming.name x) [ inl k ↦ k.1 | inr k ↦ absurd (never (sym (and_second (z.declaration.route.target.number == c) (bytes_eq z.declaration.naming.name x) j) ∙ k.0)) ] in
               some_is z.symbol y (sym ((clear_state p h common typed numbered x simply).same z i z_named) ∙ ap (λ k. get final.bindings k x) number ∙ bound)
@@ -186,11 +180,11 @@ module _ (p : Tree) (h : first_fault p ≡ None) (common : is_common p ≡ true)
     reference_there : in_type_parameters_under q.path ≡ true → any_mention (is_mention_of what.InTypeParameters) (mentions p) x ≡ true
     reference_there types =
         any_there (λ z. is_mention_of what.InTypeParameters z && bytes_eq x z.name) (mentions p) m
-        (flat_among (noted_at p.source_type) (steps p) (entering q) m entered (subst (λ k. Among m (noted_by k a q.node)) (sym (kind_is q.node.kind kind.IdentifierReference refers)) (there types))) (named_x q.node.text is_x)
+        (of_flat (noted_at p.source_type) (steps p) (entering q) m entered (subst (λ k. Among m (noted_by k a q.node)) (sym (kind_is q.node.kind kind.IdentifierReference refers)) (there types))) (named_x q.node.text is_x)
 
   pub asks_past_none : holds_in p.source_type (mentions p) (tables_of p) reason.HiddenParameter x ≡ false → AsksPastNoParameter p x
   asks_past_none hidden q entered refers is_x past =
-      let w : HasParameter (named_in p) x = has_parameter (named_in p) x q.node q.path (each_among (CommonStep p) (steps p) (entering q) (common_places p h common numbered) entered).deep past in
+      let w : HasParameter (named_in p) x = has_parameter (named_in p) x q.node q.path (each_at (CommonStep p) (steps p) (entering q) (common_places p h common numbered) entered).deep past in
       let types : in_type_parameters_under q.path ≡ true = ap (λ k. same_kind k kind.TSTypeParameterDeclaration || in_type_parameters_under q.path) (sym (kind_is q.node.kind kind.IdentifierReference refers)) ∙ in_types (named_in p) x q.node q.path past in
       let noted : any_mention (is_mention_of what.InTypeParameters) (mentions p) x ≡ true = reference_there q entered refers is_x types in
       let variable : any_symbol is_inner_variable (tables_of p).symbols x ≡ true = parameter_noted w.named w.among w.parameter w.is_x w.inner in

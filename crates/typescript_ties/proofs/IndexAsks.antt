@@ -19,6 +19,8 @@ use Rattle.semantic_model.proofs.lists.Members.{among_left, among_right}
 use Rattle.semantic_model.proofs.once.ListedUnder.{name_tells}
 use Rattle.walk_model.proofs.once.NodeIds.{root_numbered}
 use Rattle.binding_laws.proofs.EnteredOnce.{entered_once}
+use Rattle.binding_laws.proofs.ListLaws.{of_flat}
+use Rattle.binding_laws.proofs.SmallLaws.{never, either}
 use Rattle.tangle_model.specs.Mention.{Mention, noted_by, noted_at, noted_if, mentions}
 use Rattle.tangle_model.specs.Repeated.{Key, same_key, is_mention_of, key_of, keys_of, key_stands}
 use Rattle.tangle_model.specs.Surroundings.{index_signature_under, around_under}
@@ -32,19 +34,11 @@ use Rattle.typescript_ties.specs.declared.declaration_sort.DeclarationSort.TheVa
 use Rattle.typescript_ties.proofs.AgreedPlaces.{any_among, any_there}
 use Rattle.typescript_ties.proofs.EnumBodies.{IsAbove, above_of}
 use Rattle.typescript_ties.proofs.IndexPlaces.{is_index_named, is_hidden_round, IsOfIndex, of_index}
-use Rattle.typescript_ties.proofs.SimpleDeclarations.{flat_among}
-
-never : true ≡ false → ⊥
-never h = absurd cc
 
 -- an index signature whose parameter has the name stands above
 abbrev pub under_index : List NamedDeclaration → Name → List Node → Bool
 under_index ds x [] = false
 under_index ds x (f ∷ path) = list_any (is_index_named f x) ds || under_index ds x path
-
-either : (a b : Bool) → (a || b) ≡ true → (a ≡ true) ⊎ (b ≡ true)
-either true b e = inl refl
-either false b e = inr e
 
 -- what hides a name is a parameter behind type parameters, or an index signature above
 pub hidden_cases : (ds : List NamedDeclaration) (x : Name) (child : Node) (path : List Node) → is_hidden_round ds x child path ≡ true → (is_past_parameter ds x child path ≡ true) ⊎ (under_index ds x path ≡ true)
@@ -161,7 +155,7 @@ module _ (p : Tree) (h : first_fault p ≡ None) (numbered : IsNumbered p.root) 
   -- ---- what is noted
 
   noted : (q : Place) (m : Mention) → Among (entering q) (steps p) → Among m (noted_by q.node.kind (around_under p.source_type q.path) q.node) → Among m (mentions p)
-  noted q m a b = flat_among (noted_at p.source_type) (steps p) (entering q) m a b
+  noted q m a b = of_flat (noted_at p.source_type) (steps p) (entering q) m a b
 
   -- so a reference there makes the name tangled
   pub asks_no_index : any_mention (is_in_own_index (mentions p)) (mentions p) x ≡ false → (q : Place) → Among (entering q) (steps p) → is kind.IdentifierReference q.node ≡ true → q.node.text ≡ x → under_index ns x q.path ≡ true → ⊥

@@ -19,6 +19,8 @@ use Rattle.semantic_model.specs.Place.{Place, parent_holds}
 use Rattle.semantic_model.specs.Step.{Step, entering, opening, header_ending, closing, leaving, steps}
 use Rattle.semantic_model.proofs.form.Clauses.{kind_is}
 use Rattle.program_laws.proofs.DeclaredNodes.{among_flat}
+use Rattle.binding_laws.proofs.ListLaws.{each_at}
+use Rattle.binding_laws.proofs.SmallLaws.{never}
 use Rattle.typescript_ties.specs.Containers.{Container, container_of, bound_container, containers, containers_by, decorates_parameter, outside_function}
 use Rattle.typescript_ties.specs.NamedDeclarations.{NamedDeclaration, is_sort, declared_outward, declared_here, leaves_its_block, namespace_sort, variables_named, named_by_node, named_at, named_in}
 use Rattle.typescript_ties.proofs.PastParameters.{is_parameter_named}
@@ -26,10 +28,6 @@ use Rattle.typescript_ties.specs.declared.container_kind.ContainerKind.TheVarian
 use Rattle.typescript_ties.specs.declared.declaration_sort.DeclarationSort.TheVariants as sort
 use Rattle.typescript_ties.proofs.EnumBodies.{index_parent, IsAbove, above_of}
 use Rattle.typescript_ties.proofs.KnownPlaces.{KnownStep, known_places}
-use Rattle.typescript_ties.proofs.UndeclaredFree.{each_among}
-
-never : true ≡ false → ⊥
-never h = absurd cc
 
 -- the parameter of an index signature
 abbrev pub is_index_named : Node → Name → NamedDeclaration → Bool
@@ -112,7 +110,7 @@ module _ (p : Tree) (h : first_fault p ≡ None) where
     pub stands : n.container.node ≡ signature.node.node_id
 
   in_signature : (q : Place) → Among (entering q) (steps p) → q.node.kind ≡ kind.TSIndexSignatureName → (path : List Node) → q.path ≡ path → IsOfIndex (record { sort = sort.IndexParameter; identifier = q.node.node_id; name = q.node.text; container = bound_container false (containers p.source_type q.node path); also = [] })
-  in_signature q a k [] e = absurd (let z : kind.TSIndexSignatureName ≡ kind.Program = sym k ∙ (each_among KnownStep (steps p) (entering q) (known_places p h) a).rooted e in absurd cc)
+  in_signature q a k [] e = absurd (let z : kind.TSIndexSignatureName ≡ kind.Program = sym k ∙ (each_at KnownStep (steps p) (entering q) (known_places p h) a).rooted e in absurd cc)
   in_signature q a k (y ∷ path) e =
       let is_so : y.kind ≡ kind.TSIndexSignature = index_parent p h q a k y path e in
       let plain : decorates_parameter y q.node ≡ false = ap (λ j. (same_kind kind.FormalParameter j || (same_kind kind.FormalParameterRest j || false)) && is kind.Decorator q.node) is_so in

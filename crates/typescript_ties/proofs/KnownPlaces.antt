@@ -26,6 +26,7 @@ use Rattle.semantic_model.proofs.steps.EachStep.{each_of_node, each_of_turn}
 use Rattle.semantic_model.proofs.steps.Turn.{Turn, turn_at}
 use Rattle.semantic_model.proofs.steps.TurnCases.{opening_case, ending_case, last_case}
 use Rattle.walk_model.proofs.places.Shapes.{holds_below, tree_holds}
+use Rattle.binding_laws.proofs.SmallLaws.{not_empty}
 
 -- a rest element directly in a list of parameters
 abbrev pub is_bare_rest : Node → List Node → Bool
@@ -68,9 +69,6 @@ KnownStep (opening p s) = Unit {0}
 KnownStep (header_ending p s) = Unit {0}
 KnownStep (closing p s) = Unit {0}
 KnownStep (leaving p) = Unit {0}
-
-not_empty : {A : Type 0} (x : A) (xs : List A) → x ∷ xs ≡ [] → ⊥
-not_empty x xs e = absurd cc
 
 known_below : (p : Place) (own : Option OpenScope) (n cursor : ℕ) (f : Forest) → holds_below no_rest p.node.kind f ≡ true → EachStep KnownStep (steps_below p own n cursor f)
 known_below p own n cursor nothing h = last_case (EachStep KnownStep) p own n tt (tt, (tt, tt))

@@ -4,6 +4,7 @@ use Rattle.std.specs.List.{list_any}
 use Rattle.std.specs.Prelude.{slice_get, slice_index_or}
 use Rattle.std.proofs.lemmas.Bool.{and_from}
 use Rattle.std.proofs.lemmas.Bool.Decides.{eqb_tells}
+use Rattle.semantic_syntax.proofs.Truth.{or_true}
 use Rattle.semantic_syntax.specs.Members.{contains}
 use Rattle.semantic_syntax.specs.Tables.{Name}
 use Rattle.semantic_syntax.specs.Reading.{no_scope}
@@ -11,15 +12,13 @@ use Rattle.semantic_model.specs.Entries.{Among}
 use Rattle.semantic_model.specs.Step.{Step, entering, opening, header_ending, closing, leaving}
 use Rattle.semantic_model.specs.TablesOf.{opened_entry}
 use Rattle.semantic_model.proofs.once.ListedUnder.{name_tells}
+use Rattle.binding_laws.proofs.ListLaws.{among_filter}
 use Rattle.binding_laws.proofs.ScopeOpeners.{openers}
+use Rattle.binding_laws.proofs.SmallLaws.{never}
 use Rattle.tangle_model.specs.Mention.{Mention}
 use Rattle.tangle_model.specs.Repeated.{Key, same_key, is_mention_of, key_of, keys_of, key_stands, repeats}
 use Rattle.tangle_model.specs.Tangled.{is_merged, merged_openers}
 use Rattle.tangle_model.specs.declared.what.What.TheVariants as what
-use Rattle.typescript_ties.proofs.AgreedPlaces.{filter_among}
-
-never : true ≡ false → ⊥
-never h = absurd cc
 
 -- a block of the name, by the node that opens its scope
 abbrev pub block_of : ℕ → Name → Mention
@@ -38,10 +37,6 @@ key_among (m ∷ ms) home name (inr a) = by (is_mention_of what.Block m) (key_am
   where
     by : (t : Bool) → key_stands (block_key name) (keys_of what.Block ms) ≡ true → list_any (same_key (block_key name)) (map key_of (cond t (m ∷ filter (is_mention_of what.Block) ms) (filter (is_mention_of what.Block) ms))) ≡ true
     by true e = ap (λ b. same_key (block_key name) (key_of m) || b) e ∙ or_true (same_key (block_key name) (key_of m))
-      where
-        or_true : (b : Bool) → (b || true) ≡ true
-        or_true true = refl
-        or_true false = refl
     by false e = e
 
 -- two of the name are more than one
@@ -72,7 +67,7 @@ home_among (y ∷ ms) m (inr a) = inr (home_among ms m a)
 
 -- so each of them is merged
 pub merged_opener : (ms : List Mention) (i j : ℕ) (name : Name) → (i ≡ j → ⊥) → Among (block_of i name) ms → Among (block_of j name) ms → contains (merged_openers ms) i ≡ true
-merged_opener ms i j name n a b = contains_there (merged_openers ms) i (home_among (filter (is_merged ms) ms) (block_of i name) (filter_among (is_merged ms) ms (block_of i name) a (two_repeat ms i j name n a b)))
+merged_opener ms i j name n a b = contains_there (merged_openers ms) i (home_among (filter (is_merged ms) ms) (block_of i name) (among_filter (is_merged ms) ms (block_of i name) a (two_repeat ms i j name n a b)))
 
 -- ---- the node of a scope
 

@@ -10,14 +10,12 @@ use Rattle.semantic_tree.specs.Views.{child_of, is_child_in}
 use Rattle.semantic_tree.specs.declared.node.Node.{Node}
 use Rattle.semantic_model.specs.Entries.{Among}
 use Rattle.semantic_model.specs.Inside.{is_inside}
+use Rattle.binding_laws.proofs.SmallLaws.{never}
 use Rattle.typescript_ties.specs.Containers.{Container, same_container_kind, container_of, bound_container, members_of, id_name, module_member_name, is_exported_under, is_one_of_kind, is_of_signature, parameter_containers, containers_by}
 use Rattle.typescript_ties.specs.SimpleNames.{is_apart}
 use Rattle.typescript_ties.specs.declared.container_kind.ContainerKind.TheVariants as container
 use Rattle.typescript_ties.proofs.ChildPlaces.{is_told_by_role, tells_by_kind}
 use Rattle.typescript_ties.proofs.Heads.{outside_is, false_not}
-
-never : true ≡ false → ⊥
-never h = absurd cc
 
 -- apart, and not what is global
 pub record IsAside (c : Container) : Type 0 where

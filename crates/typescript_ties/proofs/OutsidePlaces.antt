@@ -14,15 +14,9 @@ use Rattle.semantic_model.specs.Step.{child_place, child_scopes}
 use Rattle.semantic_model.proofs.form.Clauses.{kind_is}
 use Rattle.typescript_ties.specs.Containers.{Container, outside_function, containers_by, containers}
 use Rattle.binding_laws.proofs.ChildChains.{ChainOf, outer_chain, inner_chain, OwnOf, chain_of}
+use Rattle.binding_laws.proofs.SmallLaws.{never, either}
 use Rattle.typescript_ties.proofs.ChildPlaces.{same_truth}
 use Rattle.typescript_ties.proofs.ParameterLists.{is_parameter_kind, is_list_kind, has_parameters, tells_decorator, stands_in_list, stands_deeper, tells_parameters, AllBefore, outside_is}
-
-never : true ≡ false → ⊥
-never h = absurd cc
-
-pub or_cases : (a b : Bool) → (a || b) ≡ true → (a ≡ true) ⊎ (b ≡ true)
-or_cases true b e = inl refl
-or_cases false b e = inr e
 
 no_decorator : (k : AstType) → is_list_kind k ≡ true → same_kind k kind.Decorator ≡ false
 no_decorator kind.Decorator e = absurd (never (sym e))
@@ -103,7 +97,7 @@ module _ (s : SourceType) (q : Place) (r : Role) (node : Node) (text : List ℕ)
 
     -- outside of the child, if that is a list or a parameter
     pub child_out : (same_kind q.node.kind kind.Program ≡ false → AllBefore q.node.node_id (round q)) → P q.chain (round q) → is_list_kind node.kind ≡ true → P (outside child.chain) (outside_function (round child))
-    child_out before there e = subst (λ l. P (outside child.chain) (outside_function l)) (sym (plain_round plain)) (elim (or_cases (holds_kind (kind.FormalParameters ∷ []) node.kind) (is_parameter_kind node.kind) e) [
+    child_out before there e = subst (λ l. P (outside child.chain) (outside_function l)) (sym (plain_round plain)) (elim (either (holds_kind (kind.FormalParameters ∷ []) node.kind) (is_parameter_kind node.kind) e) [
       | inl i ↦ of_list (plain_chain plain) i (implied (has_parameters q.node.kind && is_inside q.node.kind r) (holds_kind (kind.FormalParameters ∷ []) node.kind) i
           (and_first ((has_parameters q.node.kind && is_inside q.node.kind r) || not (holds_kind (kind.FormalParameters ∷ []) node.kind)) (same_kind q.node.kind kind.FormalParameters || not (is_parameter_kind node.kind)) stands))
       | inr i ↦ of_parameter (plain_chain plain) (kind_is q.node.kind kind.FormalParameters (implied (same_kind q.node.kind kind.FormalParameters) (is_parameter_kind node.kind) i

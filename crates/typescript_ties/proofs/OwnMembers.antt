@@ -28,6 +28,8 @@ use Rattle.semantic_model.proofs.form.Shape.{has_form}
 use Rattle.semantic_model.proofs.lists.BindingLaws.{get_among}
 use Rattle.semantic_model.proofs.lists.Members.{among_at}
 use Rattle.semantic_model.proofs.once.ListedUnder.{name_tells}
+use Rattle.binding_laws.proofs.ListLaws.{of_flat, each_at}
+use Rattle.binding_laws.proofs.SmallLaws.{never}
 use Rattle.tangle_model.specs.Mention.{Mention, noted_by, noted_at, mentions}
 use Rattle.tangle_model.specs.Surroundings.{around_under}
 use Rattle.tangle_model.specs.Tangled.{merged_openers, is_merged_member, any_symbol}
@@ -44,11 +46,7 @@ use Rattle.typescript_ties.proofs.MergedBlocks.{block_of, merged_opener, opened_
 use Rattle.typescript_ties.proofs.Pairs.{container_kind_is}
 use Rattle.typescript_ties.proofs.SharedMembers.{MemberSort, unshared, of_namespace, of_module, of_globals, of_enum, member_sort}
 use Rattle.typescript_ties.proofs.SimpleOnes.{is_not_apart}
-use Rattle.typescript_ties.proofs.SimpleDeclarations.{of_language, made_so, clear_state, flat_among}
-use Rattle.typescript_ties.proofs.UndeclaredFree.{each_among}
-
-never : true ≡ false → ⊥
-never h = absurd cc
+use Rattle.typescript_ties.proofs.SimpleDeclarations.{of_language, made_so, clear_state}
 
 seen_is : (a b : Seen) → Some a ≡ Some b → a ≡ b
 seen_is a b e = cc
@@ -113,7 +111,7 @@ module _ (p : Tree) (h : first_fault p ≡ None) (common : is_common p ≡ true)
   -- ---- what is noted of blocks
 
   noted : (q : Place) (m : Mention) → Among (entering q) (steps p) → Among m (noted_by q.node.kind (around_under p.source_type q.path) q.node) → Among m (mentions p)
-  noted q m a b = flat_among (noted_at p.source_type) (steps p) (entering q) m a b
+  noted q m a b = of_flat (noted_at p.source_type) (steps p) (entering q) m a b
 
   namespace_noted : (q : Place) → Among (entering q) (steps p) → q.node.kind ≡ kind.TSNamespaceDeclaration → (id : Node) → child_of role.Id q.node ≡ Some id → Among (block_of q.node.node_id id.text) (mentions p)
   namespace_noted q a k id e = noted q (block_of q.node.node_id id.text) a (subst (λ z. Among (block_of q.node.node_id id.text) (noted_by z (around_under p.source_type q.path) q.node)) (sym k) (rw e (inl refl)))
@@ -168,7 +166,7 @@ module _ (p : Tree) (h : first_fault p ≡ None) (common : is_common p ≡ true)
       mine = (of_language p h common typed numbered x simply n a e known).1.pair.home.origin
 
       theirs : HasOrigin p c
-      theirs = by ((each_among (CommonStep p) (steps p) (entering q) (common_places p h common numbered) entered).head.origin c there)
+      theirs = by ((each_at (CommonStep p) (steps p) (entering q) (common_places p h common numbered) entered).head.origin c there)
         where
           by : (is_apart c.kind ≡ true) ⊎ HasOrigin p c → HasOrigin p c
           by (inl i) = absurd (never (sym i ∙ ap is_apart (sym kinds) ∙ free))

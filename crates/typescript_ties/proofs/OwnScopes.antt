@@ -18,9 +18,7 @@ use Rattle.semantic_model.proofs.steps.OpenedFrom.{OpenedFrom, OpenedRound, open
 use Rattle.semantic_model.proofs.steps.Turn.{Turn, turn_at}
 use Rattle.semantic_model.proofs.steps.TurnCases.{ending_case}
 use Rattle.binding_laws.proofs.ScopeOpeners.{openers, IsOpened, AllOpened, opened_at}
-
-never : true ≡ false → ⊥
-never h = absurd cc
+use Rattle.binding_laws.proofs.SmallLaws.{never}
 
 -- a scope of the chain
 pub among_opened : (table : List ℕ) (chain : List OpenScope) (z : OpenScope) → AllOpened table chain → Among z chain → IsOpened table z

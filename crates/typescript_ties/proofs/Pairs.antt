@@ -25,6 +25,7 @@ use Rattle.semantic_model.specs.ScopeKind.{opened_scope}
 use Rattle.semantic_model.specs.Step.{entering, steps}
 use Rattle.binding_laws.specs.SeenDeclarations.{is_own_name}
 use Rattle.std.proofs.lemmas.List.{append-nil, map-append}
+use Rattle.binding_laws.proofs.ListLaws.{of_map}
 use denote.Enum.Bare.{same_true}
 use Rattle.typescript_ties.specs.contracts.container_kind.ContainerKind.{the_type as the_container_kinds}
 use Rattle.typescript_ties.specs.declared.container_kind.ContainerKind.{ContainerKind}
@@ -44,20 +45,13 @@ use Rattle.typescript_ties.proofs.LikeFlags.{IsVariable}
 use Rattle.typescript_ties.proofs.VarPlaces.{is_statement_kind}
 use Rattle.typescript_ties.proofs.VarRoutes.{TakesIn, StandsWell}
 use Rattle.binding_laws.proofs.ScopeOpeners.{openers, IsOpened, AllOpened}
+use Rattle.binding_laws.proofs.SmallLaws.{never}
 use Rattle.typescript_ties.proofs.OwnScopes.{among_opened}
 use Rattle.typescript_ties.proofs.SimpleOnes.{sort_is_simple, is_not_apart}
 use Rattle.typescript_ties.proofs.Unheaded.{is_unheaded}
 
-never : true ≡ false → ⊥
-never h = absurd cc
-
 pub container_kind_is : (a b : ContainerKind) → same_container_kind a b ≡ true → a ≡ b
 container_kind_is a b h = same_true the_container_kinds tt a b h
-
-pub map_among : {A B : Type 0} → (g : A → B) (xs : List A) (x : A) → Among x xs → Among (g x) (map g xs)
-map_among g [] x a = absurd a
-map_among g (z ∷ xs) x (inl e) = inl (ap g e)
-map_among g (z ∷ xs) x (inr a) = inr (map_among g xs x a)
 
 -- the flags mean what the sort does
 pub record HasMeanings (k : DeclarationSort) (flags : ℕ) : Type 0 where
@@ -398,7 +392,7 @@ module _ (p : Tree) where
         named_so v id a =
             subst (λ l. Among (declared_outward sort.Var s q.node l id) (named_by_node q.node.kind s q.node q.path)) (sym e)
             (subst (Among (out_there id)) (sym (ap (λ z. named_by_node z s q.node q.path) j ∙ ap (variables_named s q.node) e))
-            (subst (λ b. Among (out_there id) (map (cond b out_there (declared_here sort.Lexical s q.node (declaration ∷ path))) (bound_names q.node))) (sym v) (map_among out_there (bound_names q.node) id a)))
+            (subst (λ b. Among (out_there id) (map (cond b out_there (declared_here sort.Lexical s q.node (declaration ∷ path))) (bound_names q.node))) (sym v) (of_map out_there (bound_names q.node) id a)))
 
         near : BinderRow
         near = record { flags = union (lexical_flags declaration) (marked_ambient declaration); excluded = symbol.BlockScopedVariableExcludes.bits; how = plain; route = here q.chain }

@@ -21,12 +21,10 @@ use Rattle.semantic_model.specs.Entries.{Among}
 use Rattle.semantic_model.specs.Inside.{is_inside, is_parameter_decorator}
 use Rattle.semantic_model.proofs.form.PartsHold.{passed_hold}
 use Rattle.walk_model.proofs.places.Shapes.{holds_below, tree_holds}
+use Rattle.binding_laws.proofs.SmallLaws.{never}
 use Rattle.typescript_ties.specs.Containers.{Container, container_of, is_of_signature, parameter_containers, function_containers, containers_by, past_node, outside_function}
 use Rattle.typescript_ties.specs.declared.container_kind.ContainerKind.TheVariants as container
 use Rattle.typescript_ties.proofs.ChildPlaces.{same_truth, is_one_of, is_none_of, one_of, none_of}
-
-never : true ≡ false → ⊥
-never h = absurd cc
 
 -- ---- kinds
 

@@ -25,20 +25,11 @@ use Rattle.semantic_model.proofs.lists.SymbolLaws.{get-update, get-push, get-las
 use Rattle.semantic_model.proofs.once.ListedUnder.{name_tells}
 use Rattle.binding_laws.specs.SeenDeclarations.{seen_alone, with_declaration, bound_by_all}
 use Rattle.binding_laws.proofs.Growing.{other_flags, rescoped_flags}
+use Rattle.binding_laws.proofs.ListLaws.{filter_push}
 use Rattle.binding_laws.proofs.OtherNames.{LeavesName, leaves_name}
 use Rattle.typescript_ties.specs.SeenTogether.{IsPlainDeclaration, is_in_scope}
 
 -- ---- lists
-
-filter_push : (test : Made → Bool) (ms : List Made) (m : Made) → filter test (ms ++ m ∷ []) ≡ cond (test m) (filter test ms ++ m ∷ []) (filter test ms)
-filter_push test [] m = refl
-filter_push test (y ∷ ms) m = one (test y) (test m) (filter test (ms ++ m ∷ [])) (filter test ms) (filter_push test ms m)
-  where
-    one : (a b : Bool) (us vs : List Made) → us ≡ cond b (vs ++ m ∷ []) vs → cond a (y ∷ us) us ≡ cond b (cond a (y ∷ vs) vs ++ m ∷ []) (cond a (y ∷ vs) vs)
-    one true true us vs e = ap (λ l. y ∷ l) e
-    one true false us vs e = ap (λ l. y ∷ l) e
-    one false true us vs e = e
-    one false false us vs e = e
 
 pub filter_none : (test : Made → Bool) (ms : List Made) → ((m : Made) → Among m ms → test m ≡ false) → filter test ms ≡ []
 filter_none test [] h = refl

@@ -38,11 +38,9 @@ use Rattle.typescript_ties.proofs.Groups.{GroupMember, member_of}
 use Rattle.typescript_ties.proofs.HeadPlaces.{HasOrigin, IsCommonPlace, round_place}
 use Rattle.typescript_ties.proofs.Pairs.{container_kind_is, IsSeenHeaded}
 use Rattle.binding_laws.proofs.ScopeOpeners.{openers, IsOpened, one_scope}
+use Rattle.binding_laws.proofs.SmallLaws.{never}
 use Rattle.typescript_ties.proofs.SimpleOnes.{is_not_apart, is_parameter}
 use Rattle.typescript_ties.proofs.SimpleDeclarations.{IsBoth, of_tables, of_language, of_made, made_so}
-
-never : true ≡ false → ⊥
-never h = absurd cc
 
 -- ---- a container is itself
 

@@ -11,6 +11,7 @@ use Rattle.semantic_model.specs.Cursor.{way_or_read}
 use Rattle.semantic_model.specs.Entries.{Among}
 use Rattle.semantic_model.specs.Step.{entering, steps}
 use Rattle.semantic_model.proofs.once.ListedUnder.{name_tells}
+use Rattle.binding_laws.proofs.SmallLaws.{never, implied}
 use Rattle.typescript_ties.specs.AskedMeanings.{asked_by_reference}
 use Rattle.typescript_ties.specs.Containers.{Container, containers}
 use Rattle.typescript_ties.specs.NamedDeclarations.{NamedDeclaration, same_sort, is_sort, named_by_node, named_in}
@@ -19,17 +20,10 @@ use Rattle.typescript_ties.specs.TriedNames.{asks_at, declares_var, stands_apart
 use Rattle.typescript_ties.specs.declared.declaration_sort.DeclarationSort.TheVariants as sort
 use Rattle.typescript_ties.proofs.AgreedPlaces.{any_there}
 
-never : true ≡ false → ⊥
-never h = absurd cc
-
 all_among : {A : Type 0} → (test : A → Bool) (xs : List A) (x : A) → list_all test xs ≡ true → Among x xs → test x ≡ true
 all_among test [] x h a = absurd a
 all_among test (y ∷ xs) x h (inl e) = subst (λ z. test z ≡ true) e (and_first (test y) (list_all test xs) h)
 all_among test (y ∷ xs) x h (inr a) = all_among test xs x (and_second (test y) (list_all test xs) h) a
-
-implied : (a b : Bool) → (not a || b) ≡ true → a ≡ true → b ≡ true
-implied true b h e = h
-implied false b h e = absurd (never (sym e))
 
 module _ (p : Tree) (x : Name) (tried : is_simple_name p x ≡ true) where
   abbrev all_declared : Bool

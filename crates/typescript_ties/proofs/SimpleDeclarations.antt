@@ -29,6 +29,8 @@ use Rattle.semantic_model.proofs.form.Shape.{has_form}
 use Rattle.semantic_model.proofs.lists.Members.{among_left, among_right, among_last, among_cases}
 use Rattle.program_laws.proofs.DeclaredNodes.{among_flat}
 use Rattle.semantic_model.specs.TablesOf.{made_of}
+use Rattle.binding_laws.proofs.DeclaredMade.{made_stays, is_made}
+use Rattle.binding_laws.proofs.ListLaws.{of_flat, of_map, each_at}
 use Rattle.binding_laws.specs.SeenDeclarations.{is_own_name}
 use Rattle.typescript_ties.specs.DeclaredNames.{told_to_tables, told_by_language}
 use Rattle.typescript_ties.specs.NamedDeclarations.{NamedDeclaration, is_sort, named_by_node, named_at, named_in}
@@ -38,44 +40,19 @@ use Rattle.typescript_ties.proofs.HeadPlaces.{IsCommonPlace, CommonStep, common_
 use Rattle.typescript_ties.proofs.IndexPlaces.{other_sort}
 use Rattle.typescript_ties.proofs.KnownPlaces.{IsKnownPlace, KnownStep, known_places}
 use Rattle.typescript_ties.proofs.OwnScopes.{among_opened, OwnScope, OwnStep, own_program}
-use Rattle.typescript_ties.proofs.Pairs.{IsPassedAs, WayOf, stays, goes_out, IsSimplePair, AllPairs, map_among, pair_of_written, pair_of_named, pairs_by}
+use Rattle.typescript_ties.proofs.Pairs.{IsPassedAs, WayOf, stays, goes_out, IsSimplePair, AllPairs, pair_of_written, pair_of_named, pairs_by}
 use Rattle.binding_laws.proofs.ScopeOpeners.{openers, IsOpened, AllOpened, IsPlaceOpened, places_opened, innermost_opened, root_opener}
+use Rattle.binding_laws.proofs.SmallLaws.{never}
 use Rattle.typescript_ties.proofs.ClearFold.{AllClear, ClearState}
 use Rattle.typescript_ties.proofs.ClearTies.{clear_at_last}
 use Rattle.typescript_ties.proofs.LikeFlags.{IsVariable}
 use Rattle.typescript_ties.proofs.VarRoutes.{StandsWell, StandingStep, all_stand_well}
 use Rattle.typescript_ties.proofs.SimpleOnes.{sort_is_simple}
-use Rattle.typescript_ties.proofs.UndeclaredFree.{each_among, IsWritten, is_written, not_index, named_among}
-
-never : true ≡ false → ⊥
-never h = absurd cc
+use Rattle.typescript_ties.proofs.UndeclaredFree.{IsWritten, is_written, not_index, named_among}
 
 -- ---- lists
 
-pub flat_among : {A B : Type 0} → (g : A → List B) (xs : List A) (x : A) (y : B) → Among x xs → Among y (g x) → Among y (flat_map g xs)
-flat_among g [] x y a b = absurd a
-flat_among g (z ∷ xs) x y (inl e) b = among_left y (g z) (flat_map g xs) (subst (λ w. Among y (g w)) (sym e) b)
-flat_among g (z ∷ xs) x y (inr a) b = among_right y (g z) (flat_map g xs) (flat_among g xs x y a b)
-
 -- ---- what is declared was made
-
-made_stays : (y : Made) (st : State) (es : List Event) → Among y st.made → Among y (run st es).made
-made_stays y st [] a = a
-made_stays y st (declares d ∷ es) a =
-    let w : Adds st.made d (act st (declares d)).made = adds st d in
-    made_stays y (act st (declares d)) es (subst (Among y) (sym w.adds) (among_left y st.made (record { declaration = d; symbol = w.symbol } ∷ []) a))
-made_stays y st (takes_over c b ∷ es) a = made_stays y (act st (takes_over c b)) es a
-made_stays y st (ends_header c ∷ es) a = made_stays y st es a
-
-is_made : (d : Declaration) (st : State) (es : List Event) → Among d (declarations es) → (s : ℕ) × Among (record { declaration = d; symbol = s }) (run st es).made
-is_made d st [] a = absurd a
-is_made d st (declares e ∷ es) (inl q) =
-    let w : Adds st.made e (act st (declares e)).made = adds st e in
-    let y : Made = record { declaration = e; symbol = w.symbol } in
-    (w.symbol, subst (λ z. Among (record { declaration = z; symbol = w.symbol }) (run (act st (declares e)) es).made) q (made_stays y (act st (declares e)) es (subst (Among y) (sym w.adds) (among_last y st.made))))
-is_made d st (declares e ∷ es) (inr a) = is_made d (act st (declares e)) es a
-is_made d st (takes_over c b ∷ es) a = is_made d (act st (takes_over c b)) es a
-is_made d st (ends_header c ∷ es) a = is_made d st es a
 
 -- what a node declares in its own scope, it opens one for
 opens_inside : (q : Place) (own : OpenScope) (w : Declaration) (k : AstType) → Among w (declared_inside k q own) → opens k ≡ true
@@ -104,13 +81,13 @@ module _ (p : Tree) (h : first_fault p ≡ None) (common : is_common p ≡ true)
     pub opened : IsOpened (openers (steps p)) d.route.target
 
   common_at : (q : Place) → Among (entering q) (steps p) → IsCommonPlace p q
-  common_at q a = each_among (CommonStep p) (steps p) (entering q) (common_places p h common numbered) a
+  common_at q a = each_at (CommonStep p) (steps p) (entering q) (common_places p h common numbered) a
 
   known_at : (q : Place) → Among (entering q) (steps p) → IsKnownPlace q
-  known_at q a = each_among KnownStep (steps p) (entering q) (known_places p h) a
+  known_at q a = each_at KnownStep (steps p) (entering q) (known_places p h) a
 
   chain_opened : (q : Place) → Among (entering q) (steps p) → AllOpened (openers (steps p)) q.chain
-  chain_opened q a = each_among (IsPlaceOpened (openers (steps p))) (steps p) (entering q) (places_opened p) a
+  chain_opened q a = each_at (IsPlaceOpened (openers (steps p))) (steps p) (entering q) (places_opened p) a
 
   head_opened : (q : Place) → Among (entering q) (steps p) → IsOpened (openers (steps p)) (innermost q.chain)
   head_opened q a = innermost_opened (openers (steps p)) (root_opener p (has_form p h).root numbered) q.chain (chain_opened q a)
@@ -122,7 +99,7 @@ module _ (p : Tree) (h : first_fault p ≡ None) (common : is_common p ≡ true)
     among : opens q.node.kind ≡ true → Among (opening q (opened_scope q count)) (steps p)
 
   own_count : (q : Place) → Among (entering q) (steps p) → OwnCount q
-  own_count q a = by (opens q.node.kind) refl (each_among (OwnStep (steps p) (openers (steps p))) (steps p) (entering q) (own_program p) a)
+  own_count q a = by (opens q.node.kind) refl (each_at (OwnStep (steps p) (openers (steps p))) (steps p) (entering q) (own_program p) a)
     where
       by : (b : Bool) → opens q.node.kind ≡ b → (opens q.node.kind ≡ true → OwnScope (steps p) (openers (steps p)) q) → OwnCount q
       by true i f = let o : OwnScope (steps p) (openers (steps p)) q = f i in record { count = o.count; opened = λ e. o.opened; among = λ e. o.among }
@@ -136,12 +113,12 @@ module _ (p : Tree) (h : first_fault p ≡ None) (common : is_common p ≡ true)
 
   written_count : (d : Declaration) (w : IsWritten p d) → WrittenCount d w
   written_count d w = elim w.opened [
-    | inl a ↦ record { count = w.count; opened = λ e. each_among (OwnStep (steps p) (openers (steps p))) (steps p) (opening w.place (opened_scope w.place w.count)) (own_program p) a; among = w.among }
+    | inl a ↦ record { count = w.count; opened = λ e. each_at (OwnStep (steps p) (openers (steps p))) (steps p) (opening w.place (opened_scope w.place w.count)) (own_program p) a; among = w.among }
     | inr a ↦ (let o : OwnCount w.place = own_count w.place w.entered in record { count = o.count; opened = o.opened; among = among_right w.written (declared_on_opening w.place (opened_scope w.place o.count)) (declared_on_entering w.place) a })
   ]
 
   well_at : (q : Place) → Among (entering q) (steps p) → StandsWell p q
-  well_at q a = each_among (StandingStep p) (steps p) (entering q) (all_stand_well p h common numbered) a
+  well_at q a = each_at (StandingStep p) (steps p) (entering q) (all_stand_well p h common numbered) a
 
   stays_placed : (w : Declaration) (n : NamedDeclaration) → WayOf p w n → placed ds w ≡ w
   stays_placed w n (stays e) = ap (λ how. placed_by how ds w) e
@@ -201,11 +178,11 @@ module _ (p : Tree) (h : first_fault p ≡ None) (common : is_common p ≡ true)
       let (w, i, c) = pair_of_named p (declared_on_opening q own ++ declared_on_entering q) (named_by_node q.node.kind p.source_type q.node q.path) pairs n b in
       let simple : IsSimplePair p w n = c.simple is_so in
       let event : Among (declares (placed ds w)) (events (steps p)) = elim (among_cases w (declared_on_opening q own) (declared_on_entering q) i) [
-        | inl j ↦ flat_among (events_of ds) (steps p) (opening q own) (declares (placed ds w)) (o.among (opens_inside q own w q.node.kind j))
-            (among_right (declares (placed ds w)) (taken_over q own) (declares_all ds (declared_on_opening q own)) (map_among (λ z. declares (placed ds z)) (declared_on_opening q own) w j))
-        | inr j ↦ flat_among (events_of ds) (steps p) (entering q) (declares (placed ds w)) entered (map_among (λ z. declares (placed ds z)) (declared_on_entering q) w j)
+        | inl j ↦ of_flat (events_of ds) (steps p) (opening q own) (declares (placed ds w)) (o.among (opens_inside q own w q.node.kind j))
+            (among_right (declares (placed ds w)) (taken_over q own) (declares_all ds (declared_on_opening q own)) (of_map (λ z. declares (placed ds z)) (declared_on_opening q own) w j))
+        | inr j ↦ of_flat (events_of ds) (steps p) (entering q) (declares (placed ds w)) entered (of_map (λ z. declares (placed ds z)) (declared_on_entering q) w j)
       ] in
-      let among : Among (placed ds w) all = flat_among declared (events (steps p)) (declares (placed ds w)) (placed ds w) event (inl refl) in (
+      let among : Among (placed ds w) all = of_flat declared (events (steps p)) (declares (placed ds w)) (placed ds w) event (inl refl) in (
         w,
         record {
           among = subst (λ z. Among z all) (stays_placed w n simple.how) among;
@@ -251,7 +228,7 @@ module _ (p : Tree) (h : first_fault p ≡ None) (common : is_common p ≡ true)
     | inl i ↦ (let (z, in_passed, number) = contains_among passed o.route.target.number i in
         let w : IsPassedAs p q z = each z in_passed in
         let (m, b) = of_tables o a f in
-        let open_z : IsOpened (openers (steps p)) z = among_opened (openers (steps p)) q.chain z (each_among (IsPlaceOpened (openers (steps p))) (steps p) (entering q) (places_opened p) entered) w.around in
+        let open_z : IsOpened (openers (steps p)) z = among_opened (openers (steps p)) q.chain z (each_at (IsPlaceOpened (openers (steps p))) (steps p) (entering q) (places_opened p) entered) w.around in
         let opener : o.route.target.opener ≡ z.opener = one_opener o.route.target.opener z.opener (sym b.opened ∙ ap (slice_get (openers (steps p))) (sym number) ∙ open_z) in
         absurd (simply.clear q entered n m at is_var e b.named b.named_so w.container w.among (sym b.pair.home.opener ∙ opener ∙ sym w.stands)))
   ]

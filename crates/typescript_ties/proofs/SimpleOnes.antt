@@ -3,19 +3,13 @@ use Rattle.std.proofs.Common.{◌≡◌, Bool, true, false, ◌&&◌, ◌||◌, 
 use Rattle.std.proofs.lemmas.Bool.{not-true}
 use denote.Enum.Bare.{same_true}
 use Rattle.semantic_syntax.proofs.Truth.{and_first, and_second}
+use Rattle.binding_laws.proofs.SmallLaws.{never, implied}
 use Rattle.typescript_ties.specs.Containers.{is_container}
 use Rattle.typescript_ties.specs.NamedDeclarations.{NamedDeclaration, is_sort}
 use Rattle.typescript_ties.specs.SimpleNames.{is_simple_sort, is_apart, stands_with_parameters, is_simple}
 use Rattle.typescript_ties.specs.contracts.declaration_sort.DeclarationSort.{the_type as the_sorts}
 use Rattle.typescript_ties.specs.declared.container_kind.ContainerKind.TheVariants as container
 use Rattle.typescript_ties.specs.declared.declaration_sort.DeclarationSort.TheVariants as sort
-
-never : true ≡ false → ⊥
-never h = absurd cc
-
-implied : (a b : Bool) → (not a || b) ≡ true → a ≡ true → b ≡ true
-implied true b h e = h
-implied false b h e = absurd (never (sym e))
 
 pub sort_is_simple : (n : NamedDeclaration) → is_simple n ≡ true → is_simple_sort n.sort ≡ true
 sort_is_simple n e = and_first (is_simple_sort n.sort) (not (is_apart n.container.kind) && stands_with_parameters n) e

@@ -1,5 +1,6 @@
 -- The declarations of the tables, by the nodes that declare; and a name that nothing declares.
 use Rattle.std.proofs.Common.{◌≡◌, ℕ, List, [], ◌∷◌, ◌++◌, Option, Some, None, Bool, true, false, ◌||◌, cond, map, flat_map, refl, sym, ap, subst, ◌∙◌, inl, inr, ◌⊎◌, if◌then◌else◌, bytes_eq}
+use Rattle.std.proofs.lemmas.Bool.{or_parts}
 use Rattle.std.specs.List.{list_any}
 use Rattle.semantic_kinds.specs.declared.kind.AstType.{AstType}
 use Rattle.semantic_kinds.specs.declared.kind.AstType.TheVariants as kind
@@ -32,6 +33,8 @@ use Rattle.semantic_model.proofs.steps.TurnCases.{opening_case, ending_case, las
 use Rattle.program_laws.specs.SymbolNames.{IsNamed}
 use Rattle.program_laws.proofs.DeclaredNodes.{among_map, among_flat}
 use Rattle.program_laws.proofs.TiedNames.{ties_have_names}
+use Rattle.binding_laws.proofs.DeclaredMade.{placed_naming}
+use Rattle.binding_laws.proofs.ListLaws.{each_at}
 use Rattle.typescript_ties.specs.Containers.{Container}
 use Rattle.typescript_ties.specs.DeclaredNames.{told_to_tables, told_by_language, is_declared_in, IsUntiedEverywhere, MeansNothing}
 use Rattle.typescript_ties.specs.MeaningSets.{MeaningSet}
@@ -39,12 +42,6 @@ use Rattle.typescript_ties.specs.NamedDeclarations.{NamedDeclaration, named_by_n
 use Rattle.typescript_ties.specs.Resolved.{nowhere, declarations_in, resolve}
 use Rattle.typescript_ties.proofs.DeclaredAlike.{names_by}
 use Rattle.typescript_ties.proofs.KnownPlaces.{IsKnownPlace, KnownStep, known_places}
-
--- a step of the list that enters a place, and what holds of it
-pub each_among : (P : Step → Type 0) (ss : List Step) (st : Step) → EachStep P ss → Among st ss → P st
-each_among P [] st h a = absurd a
-each_among P (y ∷ ss) st h (inl e) = subst P e h.0
-each_among P (y ∷ ss) st h (inr a) = each_among P ss st h.1 a
 
 -- ---- a scope opens at a place that was entered
 
@@ -108,16 +105,6 @@ pub record IsWritten (p : Tree) (d : Declaration) : Type 0 where
   pub is_placed : placed (written_declarations (steps p)) written ≡ d
   pub naming_same : written.naming ≡ d.naming
 
-placed_naming : (how : How) (ds : List Declaration) (d : Declaration) → (placed_by how ds d).naming ≡ d.naming
-placed_naming plain ds d = refl
-placed_naming hoisted ds d = refl
-placed_naming caught ds d = refl
-placed_naming moved ds d = go (is_barred ds d (outside d.route.passed))
-  where
-    go : (b : Bool) → (if b then staying_declaration d else d).naming ≡ d.naming
-    go true = refl
-    go false = refl
-
 module _ (p : Tree) where
   abbrev ds : List Declaration
   ds = written_declarations (steps p)
@@ -154,7 +141,7 @@ module _ (p : Tree) where
   is_written d a =
       let (e, b, c) = among_flat declared (events (steps p)) d a in
       let (st, f, g) = among_flat (events_of ds) (steps p) e b in
-      of_step st e d f (each_among (OfOpened (IsEnteredIn (steps p))) (steps p) st (opened_program (IsEnteredIn (steps p)) p (all_entered (steps p) (steps p) (λ st a. a))) f) g c
+      of_step st e d f (each_at (OfOpened (IsEnteredIn (steps p))) (steps p) st (opened_program (IsEnteredIn (steps p)) p (all_entered (steps p) (steps p) (λ st a. a))) f) g c
 
 -- a declaration of the list has a namesake in the other
 among_told : (ds : List Declaration) (ns : List NamedDeclaration) → map told_to_tables ds ≡ map told_by_language ns → (d : Declaration) → Among d ds → (n : NamedDeclaration) × Among n ns × (told_by_language n ≡ told_to_tables d)
@@ -185,7 +172,7 @@ pub record IsNamedToo (p : Tree) (d : Declaration) : Type 0 where
 pub named_too : (p : Tree) → first_fault p ≡ None → (d : Declaration) → Among d (declarations (events (steps p))) → IsNamedToo p d
 named_too p h d a =
     let w : IsWritten p d = is_written p d a in
-    let k : IsKnownPlace w.place = each_among KnownStep (steps p) (entering w.place) (known_places p h) w.entered in
+    let k : IsKnownPlace w.place = each_at KnownStep (steps p) (entering w.place) (known_places p h) w.entered in
     let alike : map told_to_tables (declared_on_opening w.place (opened_scope w.place w.count) ++ declared_on_entering w.place) ≡ map told_by_language (named_by_node w.place.node.kind p.source_type w.place.node w.place.path) =
     names_by p.source_type w.place (opened_scope w.place w.count) w.place.node.kind refl (not_index w.place w.count w.written w.among) k.whole k.rooted in
     let (n, b, e) = among_told (declared_on_opening w.place (opened_scope w.place w.count) ++ declared_on_entering w.place) (named_by_node w.place.node.kind p.source_type w.place.node w.place.path) alike w.written w.among in
@@ -197,22 +184,18 @@ module _ (x : Name) where
   abbrev has_name : NamedDeclaration → Bool
   has_name d = bytes_eq d.name x
 
-  or_both : (a b : Bool) → (a || b) ≡ false → (a ≡ false) × (b ≡ false)
-  or_both true b h = absurd cc
-  or_both false b h = (refl, h)
-
   none_named : (ds : List NamedDeclaration) → list_any has_name ds ≡ false → (d : NamedDeclaration) → Among d ds → d.name ≡ x → ⊥
   none_named [] h d a e = absurd a
   none_named (c ∷ ds) h d (inl q) e = elim (name_tells c.name x) [
-    | inl t ↦ (let w : true ≡ false = sym t.0 ∙ (or_both (bytes_eq c.name x) (list_any has_name ds) h).0 in absurd cc)
+    | inl t ↦ (let w : true ≡ false = sym t.0 ∙ (or_parts (bytes_eq c.name x) (list_any has_name ds) h).0 in absurd cc)
     | inr t ↦ t.1 (ap (λ (n : NamedDeclaration). n.name) q ∙ e)
   ]
-  none_named (c ∷ ds) h d (inr a) e = none_named ds (or_both (bytes_eq c.name x) (list_any has_name ds) h).1 d a e
+  none_named (c ∷ ds) h d (inr a) e = none_named ds (or_parts (bytes_eq c.name x) (list_any has_name ds) h).1 d a e
 
   none_in : (ds : List NamedDeclaration) (c : Container) → list_any has_name ds ≡ false → declarations_in ds c x ≡ []
   none_in [] c h = refl
   none_in (d ∷ ds) c h =
-      let q : (bytes_eq d.name x ≡ false) × (list_any has_name ds ≡ false) = or_both (bytes_eq d.name x) (list_any has_name ds) h in
+      let q : (bytes_eq d.name x ≡ false) × (list_any has_name ds ≡ false) = or_parts (bytes_eq d.name x) (list_any has_name ds) h in
       rw q.0 (none_in ds c q.1)
 
   pub resolves_nowhere : (ds : List NamedDeclaration) (cs : List Container) (asked : MeaningSet) → list_any has_name ds ≡ false → resolve ds cs asked x ≡ nowhere

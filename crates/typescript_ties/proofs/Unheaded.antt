@@ -22,9 +22,7 @@ use Rattle.walk_model.proofs.headers.Headed.{bound_inside}
 use Rattle.walk_model.proofs.headers.NoStatements.{loose_kinds, is_bound}
 use Rattle.walk_model.proofs.places.Shapes.{holds_below, tree_holds}
 use Rattle.binding_laws.proofs.ChildChains.{ChainOf, outer_chain, inner_chain}
-
-never : true ≡ false → ⊥
-never h = absurd cc
+use Rattle.binding_laws.proofs.SmallLaws.{never, either}
 
 -- what holds statements, and enums and imports among these
 abbrev pub unheaded_kinds : List AstType
@@ -78,10 +76,6 @@ child_unheaded k r k2 text q outer chain above h c e = by c
   where
     stands : ((is_unheaded k || is_bound k) && not (is_in_header k r)) ≡ true
     stands = sym (ap (λ b. not b || ((is_unheaded k || is_bound k) && not (is_in_header k r))) e) ∙ h
-
-    either : (a b : Bool) → (a || b) ≡ true → (a ≡ true) ⊎ (b ≡ true)
-    either true b i = inl refl
-    either false b i = inr i
 
     by : {cs : List OpenScope} → ChainOf k r q outer cs → (innermost cs).in_header ≡ false
     by (inner_chain s i opener header lasting) = header ∙ not-true (is_in_header k r) (and_second (is_unheaded k || is_bound k) (not (is_in_header k r)) stands)

@@ -4,7 +4,7 @@ use Rattle.std.specs.List.{list_all}
 use Rattle.std.specs.Map.{lookup as entry_of_name}
 use Rattle.std.specs.Option.{is_some}
 use Rattle.std.specs.Prelude.{slice_get}
-use Rattle.std.proofs.lemmas.Bool.{cases_Bool, and_from, eq-eqb}
+use Rattle.std.proofs.lemmas.Bool.{cases_Bool, and_from, eq-eqb, or_parts}
 use Rattle.std.proofs.lemmas.Bool.Decides.{eqb_tells}
 use Rattle.semantic_syntax.proofs.Truth.{and_first, and_second, and_false}
 use Rattle.semantic_kinds.specs.declared.kind.AstType.TheVariants as kind
@@ -43,6 +43,7 @@ use Rattle.semantic_model.proofs.once.ListedUnder.{name_tells}
 use Rattle.semantic_model.proofs.once.ReferencesStand.{stand_once}
 use Rattle.program_laws.specs.SymbolNames.{IsNamed}
 use Rattle.program_laws.proofs.TiedNames.{ties_have_names, declarations_have_names}
+use Rattle.binding_laws.proofs.ListLaws.{filtered_out, filter_among, among_filter, each_at}
 use Rattle.binding_laws.specs.SeenDeclarations.{seen_alone, with_declaration, bound_by_all, is_before_body, stands_before_body}
 use Rattle.tangle_model.specs.Mention.{mentions}
 use Rattle.tangle_model.specs.Tangled.{is_bare_namespace, is_inner_alias, may_be_passed, is_merged_member, is_name_of, is_shared, any_symbol, any_mention, is_in_own_index, holds_in, all_reasons, tangle_reasons}
@@ -54,7 +55,7 @@ use Rattle.typescript_ties.specs.Resolved.{Resolved, nowhere, declared_in, resol
 use Rattle.typescript_ties.specs.ResolvedTies.{is_that_symbol, is_untied, is_tied_to_each, is_tied_as_resolved, is_use_tied, parting_uses}
 use Rattle.typescript_ties.specs.SeenTogether.{is_in_scope, is_seen_from, bound_together, asked_together}
 use Rattle.typescript_ties.specs.SimpleNames.{is_common, HasOwnMembers, IsSimpleName}
-use Rattle.typescript_ties.proofs.AgreedPlaces.{Agrees, AllHave, IsMissed, Matches, AgreesRound, AgreedStep, looked_up, agreed_places, among_filter, filter_among, any_there}
+use Rattle.typescript_ties.proofs.AgreedPlaces.{Agrees, AllHave, IsMissed, Matches, AgreesRound, AgreedStep, looked_up, agreed_places, any_there}
 use Rattle.typescript_ties.proofs.FitsTogether.{meets_union, meets_mask}
 use Rattle.typescript_ties.proofs.HiddenParameters.{asks_past_none}
 use Rattle.typescript_ties.proofs.HeadPlaces.{round_place}
@@ -65,25 +66,10 @@ use Rattle.typescript_ties.proofs.ClearFold.{ClearState}
 use Rattle.typescript_ties.proofs.ClearTies.{clearly_tied}
 use Rattle.typescript_ties.proofs.LikeFlags.{FlagsAlike, SeenAlike}
 use Rattle.binding_laws.proofs.ReferredNodes.{IsReferred, is_referred}
+use Rattle.binding_laws.proofs.SmallLaws.{never, not_empty}
 use Rattle.typescript_ties.proofs.SimpleDeclarations.{is_clear, clear_state}
-use Rattle.typescript_ties.proofs.UndeclaredFree.{each_among}
-
-never : true ≡ false → ⊥
-never h = absurd cc
 
 -- ---- reasons
-
-not_empty : {A : Type 0} → (z : A) (zs : List A) → z ∷ zs ≡ [] → ⊥
-not_empty z zs i = absurd cc
-
-filtered_out : {A : Type 0} → (test : A → Bool) (xs : List A) (x : A) → filter test xs ≡ [] → Among x xs → test x ≡ false
-filtered_out test [] x h a = absurd a
-filtered_out test (y ∷ xs) x h a = go (test y) refl h a (filtered_out test xs x)
-  where
-    go : (b : Bool) → test y ≡ b → cond b (y ∷ filter test xs) (filter test xs) ≡ [] → Among x (y ∷ xs) → (filter test xs ≡ [] → Among x xs → test x ≡ false) → test x ≡ false
-    go true e i j later = absurd (not_empty y (filter test xs) i)
-    go false e i (inl q) later = subst (λ z. test z ≡ false) q e
-    go false e i (inr j) later = later i j
 
 -- ---- symbols of one name
 
@@ -125,10 +111,6 @@ no_entry (f ∷ fs) x h = by (bytes_eq x f.0) refl h (no_entry fs x)
 
 -- ---- flags
 
-or_both : (a b : Bool) → (a || b) ≡ false → (a ≡ false) × (b ≡ false)
-or_both true b h = absurd (never h)
-or_both false b h = (refl, h)
-
 abbrev aliases : ℕ
 aliases = union symbol.Import.bits symbol.TypeImport.bits
 
@@ -141,8 +123,8 @@ other_types = union symbol.Class.bits (union symbol.Interface.bits (union symbol
 -- a namespace that is no type
 bare : (f : ℕ) → meets f symbol.AsNamespace.bits ≡ true → meets f symbol.ByType.bits ≡ false → ((meets f symbol.ValueModule.bits || meets f symbol.NamespaceModule.bits) && not (meets f symbol.TypeFlag.bits)) ≡ true
 bare f n t =
-    let (no_types, no_aliases) = or_both (meets f symbol.TypeFlag.bits) (meets f aliases) (sym (meets_mask f symbol.TypeFlag.bits aliases) ∙ t) in
-    let (no_enums, no_others) = or_both (meets f enums) (meets f other_types) (sym (meets_mask f enums other_types) ∙ no_types) in
+    let (no_types, no_aliases) = or_parts (meets f symbol.TypeFlag.bits) (meets f aliases) (sym (meets_mask f symbol.TypeFlag.bits aliases) ∙ t) in
+    let (no_enums, no_others) = or_parts (meets f enums) (meets f other_types) (sym (meets_mask f enums other_types) ∙ no_types) in
     let both : (meets f (union symbol.ValueModule.bits symbol.NamespaceModule.bits) || (meets f enums || meets f aliases)) ≡ true = ap (λ z. meets f (union symbol.ValueModule.bits symbol.NamespaceModule.bits) || z) (sym (meets_mask f enums aliases)) ∙ sym (meets_mask f (union symbol.ValueModule.bits symbol.NamespaceModule.bits) (union enums aliases)) ∙ n in
     let first : (meets f symbol.ValueModule.bits || meets f symbol.NamespaceModule.bits) ≡ true = sym (meets_mask f symbol.ValueModule.bits symbol.NamespaceModule.bits) ∙ left (meets f (union symbol.ValueModule.bits symbol.NamespaceModule.bits)) (meets f enums) (meets f aliases) no_enums no_aliases both in
     and_from (meets f symbol.ValueModule.bits || meets f symbol.NamespaceModule.bits) (not (meets f symbol.TypeFlag.bits)) first (ap not no_types)
@@ -369,7 +351,7 @@ module _ (p : Tree) (h : first_fault p ≡ None) (common : is_common p ≡ true)
 
       -- what a declaration of its symbol is, the symbol is
       flag_of_symbol : (y : Made) (mask : ℕ) → Among y (made_of p) → y.declaration.naming.name ≡ x → y.symbol ≡ m.number → meets y.declaration.naming.flags mask ≡ true → meets m.flags mask ≡ true
-      flag_of_symbol y mask a named same flag = m.any mask ∙ any_there (λ z. meets z.declaration.naming.flags mask) (filter (is_in_scope m.scope x) (made_of p)) y (filter_among (is_in_scope m.scope x) (made_of p) y a in_scope) flag
+      flag_of_symbol y mask a named same flag = m.any mask ∙ any_there (λ z. meets z.declaration.naming.flags mask) (filter (is_in_scope m.scope x) (made_of p)) y (among_filter (is_in_scope m.scope x) (made_of p) y a in_scope) flag
         where
           c : ℕ
           c = y.declaration.route.target.number
@@ -396,7 +378,7 @@ module _ (p : Tree) (h : first_fault p ≡ None) (common : is_common p ≡ true)
           name_seen s false y i = elim (name_tells y.declaration.naming.name x) [ inl k ↦ k.1 | inr k ↦ absurd (never (sym (and_second (y.declaration.route.target.number == s.number) (bytes_eq y.declaration.naming.name x) i) ∙ k.0)) ]
 
           from_scope : (s : OpenScope) {mask : ℕ} → ComesFrom (filter (is_seen_from s x) (made_of p)) m.number mask → meets m.flags mask ≡ true
-          from_scope s {mask} c = let (a, i) = among_filter (is_seen_from s x) (made_of p) c.made c.among in flag_of_symbol c.made mask a (name_seen s s.in_header c.made i) c.number c.flag
+          from_scope s {mask} c = let (a, i) = filter_among (is_seen_from s x) (made_of p) c.made c.among in flag_of_symbol c.made mask a (name_seen s s.in_header c.made i) c.number c.flag
 
       never_missed : ⊥
       never_missed = by referred.entry.symbol_id refl
@@ -425,7 +407,7 @@ module _ (p : Tree) (h : first_fault p ≡ None) (common : is_common p ≡ true)
 
     pub use_agrees : is_use_tied (analysis_of p) (named_in p) (name_use p.source_type q) ≡ true
     use_agrees =
-        let agree : AgreesRound p h common typed numbered x no_arguments name.simply alone_members q = (each_among (AgreedStep p h common typed numbered x no_arguments name.simply alone_members) (steps p) (entering q) (agreed_places p h common typed numbered x no_arguments name.simply alone_members) entered).0 in
+        let agree : AgreesRound p h common typed numbered x no_arguments name.simply alone_members q = (each_at (AgreedStep p h common typed numbered x no_arguments name.simply alone_members) (steps p) (entering q) (agreed_places p h common typed numbered x no_arguments name.simply alone_members) entered).0 in
         let matches : Matches p h common typed numbered x no_arguments name.simply alone_members w (looked_up p h common typed numbered x no_arguments name.simply alone_members w q.chain) (resolve (named_in p) (round_place p q) (asked_by_reference q.path) x) = agree (asked_by_reference q.path) w (name.ways q entered refers is_x) (λ i. not_hidden (hidden_cases (named_in p) x q.node q.path i)) in
         let there : is_tied_as_resolved (analysis_of p) q.node.node_id (resolve (named_in p) (round_place p q) (asked_by_reference q.path) x) ≡ true = elim matches [
           | inl a ↦ agrees_so (looked_up p h common typed numbered x no_arguments name.simply alone_members w q.chain) (resolve (named_in p) (round_place p q) (asked_by_reference q.path) x) tied_is a

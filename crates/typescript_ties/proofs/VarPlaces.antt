@@ -2,7 +2,7 @@
 use Rattle.std.proofs.Common.{◌≡◌, ℕ, List, [], ◌∷◌, ◌++◌, Some, None, Bool, true, false, ◌||◌, not, cond, refl, sym, ap, subst, ◌∙◌, inl, inr, ◌⊎◌}
 use Rattle.std.specs.List.{list_all}
 use Rattle.std.proofs.lemmas.Bool.{cases_Bool}
-use Rattle.semantic_syntax.proofs.Truth.{and_first, and_second}
+use Rattle.semantic_syntax.proofs.Truth.{and_first, and_second, or_true}
 use Rattle.semantic_syntax.specs.Sets.{meets, union}
 use Rattle.semantic_syntax.specs.declared.scope_flags.TheConstants.ScopeFlags as scope
 use Rattle.semantic_syntax.specs.declared.source_type.SourceType.{SourceType}
@@ -28,6 +28,7 @@ use Rattle.semantic_model.specs.ScopeKind.{strict_if, flags_of_kind, opened_scop
 use Rattle.semantic_model.proofs.form.Clauses.{kind_is}
 use Rattle.semantic_model.proofs.form.PartsHold.{passed_hold}
 use Rattle.walk_model.proofs.places.Shapes.{holds_below, tree_holds}
+use Rattle.binding_laws.proofs.SmallLaws.{never}
 use Rattle.typescript_ties.specs.Containers.{Container, is_container, container_of, bound_container, members_of, id_name, module_member_name, is_exported_under, is_one_of_kind, is_of_signature, parameter_containers, containers_by}
 use Rattle.typescript_ties.specs.NamedDeclarations.{takes_vars, from_first_taking}
 use Rattle.typescript_ties.specs.SimpleNames.{is_apart, before_first_taking}
@@ -36,9 +37,6 @@ use Rattle.typescript_ties.proofs.ChildPlaces.{is_told_by_role, tells_by_kind}
 use Rattle.typescript_ties.proofs.FitsTogether.{meets_union}
 use Rattle.typescript_ties.proofs.GroupNodes.{stands_by}
 use Rattle.typescript_ties.proofs.Heads.{is_of_header, head_one, inside_is}
-
-never : true ≡ false → ⊥
-never h = absurd cc
 
 -- ---- kinds
 
@@ -90,10 +88,6 @@ part_places : (k : AstType) (part : Part) (k2 : AstType) (text : List ℕ) → p
 unfolding places_part
 part_places k part k2 text h i = by (is_statement_kind k || takes_from k part.role) (list_all (λ j. not (is_of part.class j text)) var_statements) h refl
   where
-    or_true : (b : Bool) → (b || true) ≡ true
-    or_true true = refl
-    or_true false = refl
-
     by : (a b : Bool) → (a || b) ≡ true → list_all (λ j. not (is_of part.class j text)) var_statements ≡ b → (not (is_statement_kind k2) || a) ≡ true
     by true b e q = or_true (not (is_statement_kind k2))
     by false b e q = ap (λ z. not z || false) (none_of var_statements part.class k2 text (q ∙ e) i)

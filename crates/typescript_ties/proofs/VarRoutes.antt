@@ -25,6 +25,7 @@ use Rattle.semantic_model.proofs.steps.EachStep.{EachOfTurn, each_left, each_of_
 use Rattle.semantic_model.proofs.steps.Turn.{Turn, turn_at}
 use Rattle.semantic_model.proofs.steps.TurnCases.{opening_case, ending_case, last_case}
 use Rattle.walk_model.proofs.places.Shapes.{holds_below}
+use Rattle.binding_laws.proofs.SmallLaws.{never}
 use Rattle.typescript_ties.specs.Containers.{Container, bound_container, outside_function, containers_by}
 use Rattle.typescript_ties.specs.NamedDeclarations.{from_first_taking}
 use Rattle.typescript_ties.specs.SimpleNames.{is_common, is_apart, before_first_taking}
@@ -33,9 +34,6 @@ use Rattle.typescript_ties.proofs.Heads.{is_of_header}
 use Rattle.typescript_ties.proofs.HeadPlaces.{IsCommonPlace, CommonStep, common_places, round_place}
 use Rattle.typescript_ties.proofs.ParameterLists.{is_parameter_kind, tells_decorator, stands_in_list, stands_deeper, tells_parameters, tree_parameters}
 use Rattle.typescript_ties.proofs.VarPlaces.{is_statement_kind, takes_from, is_var_kind, is_placed, tree_places, placed_in, opened_var, statement_no_var, TakesInside, takes_inside, NoneTakes, from_past, before_past, statement_takes_none, statement_has, TakesFirst, takes_first}
-
-never : true ≡ false → ⊥
-never h = absurd cc
 
 -- ---- where variables go
 
