@@ -1,5 +1,5 @@
 -- What it gives that a name has no reason to be tangled.
-use Rattle.std.proofs.Common.{◌≡◌, List, [], ◌∷◌, Bool, true, false, ◌&&◌, ◌||◌, cond, filter, inl, inr, refl, sym, subst, ◌∙◌, bytes_eq, codes}
+use Rattle.std.proofs.Common.{◌≡◌, List, [], ◌∷◌, Bool, true, false, ◌&&◌, ◌||◌, cond, filter, inl, inr, refl, sym, subst, ◌∙◌, bytes_eq, codes, ap}
 use Rattle.std.specs.List.{list_any}
 use Rattle.std.proofs.lemmas.Bool.{cases_Bool}
 use Rattle.semantic_kinds.specs.declared.kind.AstType.TheVariants as kind
