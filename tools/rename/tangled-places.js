@@ -23,6 +23,7 @@ const REASONS = {
   SloppyFunction: 'TypeScript may take this function out of its block, and another declaration shares its name',
   ExportedType: 'TypeScript may export another declaration of the name as a type here',
   TypedVariable: 'TypeScript may see no type of the name where this variable is seen, which passes its block',
+  TypedFunctionName: 'TypeScript sees the own name of this function beside a type of that name',
 };
 
 // Why another is kept like these, though the program doesn't list it.

@@ -1,5 +1,5 @@
 'use strict';
-// Where it shows that the tables of a name may part from TypeScript, for six reasons of crates/tangle_model, by one pass over the rows.
+// Where it shows that the tables of a name may part from TypeScript, for seven reasons of crates/tangle_model, by one pass over the rows.
 
 const { END, KIND, MARKS, ROLE, START, TEXT } = require('../edits/rows.js');
 
@@ -125,6 +125,12 @@ function typedVariables({ symbols }) {
   return new Set(found.map(({ name }) => name));
 }
 
+// The own names of function expressions that types have as well.
+function typedOwnNames({ symbols }) {
+  const types = new Set(symbols.filter(({ flags }) => flags.some((flag) => TYPES.has(flag))).map(({ name }) => name));
+  return symbols.filter(({ name, flags }) => flags.includes('FunctionExpression') && types.has(name));
+}
+
 // The names that several symbols have.
 function sharedNames({ symbols }) {
   const seen = new Set();
@@ -148,6 +154,7 @@ function typescriptPlaces({ rows, parents, report, isModule }, note) {
   noteAll('SloppyFunction', noted.innerFunction.all.filter(({ name }) => shared.has(name)));
   noteAll('ExportedType', noted.exportedType.all.filter(({ name }) => shared.has(name)));
   noteAll('TypedVariable', noted.passingVariable.all.filter(({ name }) => typed.has(name)));
+  typedOwnNames(report).forEach(({ name, span }) => note(name, 'TypedFunctionName', span));
 }
 
 module.exports = { TYPES, sharedNames, typescriptPlaces };

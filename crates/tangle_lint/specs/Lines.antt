@@ -27,6 +27,7 @@ reason_name reason.IndexParameter = codes "IndexParameter"
 reason_name reason.SloppyFunction = codes "SloppyFunction"
 reason_name reason.ExportedType = codes "ExportedType"
 reason_name reason.TypedVariable = codes "TypedVariable"
+reason_name reason.TypedFunctionName = codes "TypedFunctionName"
 
 abbrev pub reason_text : Reason → List ℕ
 reason_text r = codes " " ++ reason_name r

@@ -33,6 +33,7 @@ fn reason_name(reason: Reason) -> &'static str
         Reason::SloppyFunction => "SloppyFunction",
         Reason::ExportedType => "ExportedType",
         Reason::TypedVariable => "TypedVariable",
+        Reason::TypedFunctionName => "TypedFunctionName",
     }
 }
 

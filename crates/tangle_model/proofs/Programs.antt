@@ -8,7 +8,7 @@ use Rattle.semantic_kinds.specs.declared.role.Role.TheVariants as role
 use Rattle.semantic_kinds.specs.declared.mark.Mark.TheVariants as mark
 use Rattle.semantic_tree.specs.Forest.{Forest}
 use Rattle.semantic_tree.specs.Tree.{Tree}
-use Rattle.tangle_model.proofs.ProgramTrees.{marked, node, program, binding, block, catch_clause, declarator, declared, expression, function, function_parts, in_parentheses, mention, named_expression, namespace, number, parameter, parameters, reference, statement, variable, alias, conditional, infer, pair, type_named, type_parameter, type_query}
+use Rattle.tangle_model.proofs.ProgramTrees.{marked, node, program, binding, block, catch_clause, declarator, declared, expression, function, function_body, function_parts, in_parentheses, mention, named_expression, namespace, number, parameter, parameters, reference, statement, variable, alias, conditional, infer, pair, type_named, type_parameter, type_query}
 
 -- `{ function f() {} } { function f() {} } f`
 abbrev pub two_blocks : Tree
@@ -436,3 +436,37 @@ passed_type word l =
 abbrev pub type_beside_variable : Tree
 type_beside_variable =
     program goal.Script lang.Ts (variable (codes "var") (codes "a") ∷ alias (codes "a") (node role.ValueType kind.TSStringKeyword [] []) ∷ [])
+
+-- `let f; (function f<NAME>() { f; });` in the language that is given
+abbrev pub own_name_beside : (type_name : List ℕ) → Lang → Tree
+own_name_beside type_name l =
+    program goal.Script l
+    (variable (codes "let") (codes "f")
+    ∷ statement
+    (in_parentheses role.Expression
+    (node role.Expression kind.Function (codes "expression")
+    (binding role.Id (codes "f")
+    ∷ node role.TypeParameters kind.TSTypeParameterDeclaration [] (node role.Params kind.TSTypeParameter [] (binding role.Name type_name ∷ []) ∷ [])
+    ∷ parameters []
+    ∷ function_body (mention (codes "f") ∷ [])
+    ∷ [])))
+    ∷ [])
+
+-- `let f; (function f() { type f = string; f; });`
+abbrev pub own_name_and_alias : Tree
+own_name_and_alias =
+    program goal.Script lang.Ts
+    (variable (codes "let") (codes "f")
+    ∷ statement
+    (in_parentheses role.Expression
+    (named_expression role.Expression (codes "f") []
+    (alias (codes "f") (node role.ValueType kind.TSStringKeyword [] []) ∷ mention (codes "f") ∷ [])))
+    ∷ [])
+
+-- `const g = function f() { f; };`
+abbrev pub own_name_alone : Tree
+own_name_alone =
+    program goal.Script lang.Ts
+    (declared role.Body (codes "const")
+    (binding role.Id (codes "g") ∷ named_expression role.Init (codes "f") [] (mention (codes "f") ∷ []) ∷ [])
+    ∷ [])

@@ -4,8 +4,8 @@ use Rattle.std.specs.Str.{chars}
 use Rattle.std.proofs.Common.{◌≡◌, [], ◌∷◌, codes, refl}
 use Rattle.semantic_syntax.specs.declared.source_type.Lang.TheVariants.{Js, Ts}
 use Rattle.tangle_model.specs.Tangled.{tangles}
-use Rattle.tangle_model.specs.declared.reason.Reason.TheVariants.{BlockFunction, CatchVariable, Arguments, With, Eval, FreeNamesake, MergedMember, NamespaceNamesake, InferredName, HiddenParameter, IndexParameter, SloppyFunction, ExportedType, TypedVariable}
-use Rattle.tangle_model.proofs.Programs.{two_blocks, one_block, two_homes, strict_blocks, special_blocks, block_and_var, if_and_parameter, block_and_own_name, case_and_let, block_and_catch, top_functions, var_in_catch, var_beside_catch, var_arguments, reads_arguments, reference_in_with, var_in_with, with_eval, free_type, free_in_javascript, merged_namespaces, merged_enums, inner_namespace, namespace_in_another, lone_namespace, inner_alias, outer_alias, infer_beside, infers_in_order, stray_infer, constrained, index_signature, inner_function, exported_types, passed_type, type_beside_variable}
+use Rattle.tangle_model.specs.declared.reason.Reason.TheVariants.{BlockFunction, CatchVariable, Arguments, With, Eval, FreeNamesake, MergedMember, NamespaceNamesake, InferredName, HiddenParameter, IndexParameter, SloppyFunction, ExportedType, TypedVariable, TypedFunctionName}
+use Rattle.tangle_model.proofs.Programs.{two_blocks, one_block, two_homes, strict_blocks, special_blocks, block_and_var, if_and_parameter, block_and_own_name, case_and_let, block_and_catch, top_functions, var_in_catch, var_beside_catch, var_arguments, reads_arguments, reference_in_with, var_in_with, with_eval, free_type, free_in_javascript, merged_namespaces, merged_enums, inner_namespace, namespace_in_another, lone_namespace, inner_alias, outer_alias, infer_beside, infers_in_order, stray_infer, constrained, index_signature, inner_function, exported_types, passed_type, type_beside_variable, own_name_beside, own_name_and_alias, own_name_alone}
 
 -- two block functions of one home
 row_two_blocks : tangles two_blocks ≡ record { symbol = 0; reasons = BlockFunction ∷ [] } ∷ []
@@ -216,3 +216,28 @@ row_passed_type_in_javascript = refl
 row_type_beside_variable : tangles type_beside_variable ≡ []
 unfolding encode chars
 row_type_beside_variable = refl
+
+-- the own name of a function expression beside a type parameter
+row_typed_own_name : tangles (own_name_beside (codes "f") Ts) ≡ record { symbol = 0; reasons = TypedFunctionName ∷ [] } ∷ []
+unfolding encode chars
+row_typed_own_name = refl
+
+-- the type parameter has another name
+row_other_type_parameter : tangles (own_name_beside (codes "T") Ts) ≡ []
+unfolding encode chars
+row_other_type_parameter = refl
+
+-- it is no reason in JavaScript
+row_typed_own_name_in_javascript : tangles (own_name_beside (codes "f") Js) ≡ []
+unfolding encode chars
+row_typed_own_name_in_javascript = refl
+
+-- beside a type in the body
+row_own_name_and_alias : tangles own_name_and_alias ≡ record { symbol = 0; reasons = TypedFunctionName ∷ [] } ∷ []
+unfolding encode chars
+row_own_name_and_alias = refl
+
+-- beside no type
+row_own_name_alone : tangles own_name_alone ≡ []
+unfolding encode chars
+row_own_name_alone = refl

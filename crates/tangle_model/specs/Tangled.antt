@@ -80,6 +80,10 @@ is_inner_variable y = meets y.flags.bits symbol.FunctionScopedVariable.bits && n
 abbrev pub is_typed_variable : Symbol → Bool
 is_typed_variable y = meets y.flags.bits symbol.FunctionScopedVariable.bits && meets y.flags.bits symbol.TypeFlag.bits
 
+-- it has one of the flags
+abbrev pub is_flagged : (flags : ℕ) → Symbol → Bool
+is_flagged flags y = meets y.flags.bits flags
+
 -- ---- names
 
 abbrev pub is_name_of : List Symbol → Name → Bool
@@ -99,6 +103,10 @@ is_noted_as w ms name = any_mention (is_mention_of w) ms name
 abbrev pub any_symbol : (Symbol → Bool) → List Symbol → Name → Bool
 any_symbol test ys name = list_any (λ y. test y && bytes_eq name y.name) ys
 
+-- a function expression has it as its own name, and a type has it: a type of the function takes the place of the own name in the tables, so that a value of the name is sought outside; in TypeScript both stand beside each other
+abbrev pub is_typed_own_name : List Symbol → Name → Bool
+is_typed_own_name ys name = any_symbol (is_flagged symbol.FunctionExpression.bits) ys name && any_symbol (is_flagged symbol.TypeFlag.bits) ys name
+
 -- whether the reason holds of the name, where this is noted in the program and these are its tables
 abbrev pub holds_in : SourceType → List Mention → Tables → Reason → Name → Bool
 holds_in s ms t reason.BlockFunction name = any_mention (meets_declaration ms) ms name
@@ -115,12 +123,13 @@ holds_in s ms t reason.IndexParameter name = is_typescript s && any_mention (is_
 holds_in s ms t reason.SloppyFunction name = is_typescript s && is_noted_as what.InnerFunction ms name && is_shared t.symbols name
 holds_in s ms t reason.ExportedType name = is_typescript s && is_noted_as what.ExportedType ms name && is_shared t.symbols name
 holds_in s ms t reason.TypedVariable name = is_typescript s && is_noted_as what.PassingVariable ms name && any_symbol is_typed_variable t.symbols name
+holds_in s ms t reason.TypedFunctionName name = is_typescript s && is_typed_own_name t.symbols name
 
 abbrev pub all_reasons : List Reason
 all_reasons =
     reason.BlockFunction ∷ reason.CatchVariable ∷ reason.Arguments ∷ reason.With ∷ reason.Eval ∷ reason.FreeNamesake ∷ reason.MergedMember
     ∷ reason.NamespaceNamesake ∷ reason.InferredName ∷ reason.HiddenParameter ∷ reason.IndexParameter ∷ reason.SloppyFunction ∷ reason.ExportedType
-    ∷ reason.TypedVariable ∷ []
+    ∷ reason.TypedVariable ∷ reason.TypedFunctionName ∷ []
 
 abbrev pub reasons_in : SourceType → List Mention → Tables → Name → List Reason
 reasons_in s ms t name = filter (λ r. holds_in s ms t r name) all_reasons

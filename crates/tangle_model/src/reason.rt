@@ -32,4 +32,6 @@ pub enum Reason {
     ExportedType,
     /// In TypeScript, a `var` in a block has the name, and a symbol of it is a variable and a type.
     TypedVariable,
+    /// In TypeScript, a function expression has the name as its own, and a type has it.
+    TypedFunctionName,
 }

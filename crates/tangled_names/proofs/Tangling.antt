@@ -97,12 +97,13 @@ module _ (f : NameFacts) (s : SourceType) (ms : List Mention) (t : Tables) where
   told_same a b c d e g h y reason.FreeNamesake x = refl
   told_same a b c d e g h y reason.MergedMember x = e x
   told_same a b c d e g h y reason.NamespaceNamesake x = λ i. is_typescript s && g x i && h x i
-  told_same a b c d e g h y reason.InferredName x = λ i. is_typescript s && y.beside_infer x i
-  told_same a b c d e g h y reason.HiddenParameter x = λ i. is_typescript s && y.in_type_parameters x i && y.inner_variables x i
-  told_same a b c d e g h y reason.IndexParameter x = λ i. is_typescript s && y.in_own_index x i
-  told_same a b c d e g h y reason.SloppyFunction x = λ i. is_typescript s && y.inner_functions x i && h x i
-  told_same a b c d e g h y reason.ExportedType x = λ i. is_typescript s && y.exported_types x i && h x i
-  told_same a b c d e g h y reason.TypedVariable x = λ i. is_typescript s && y.passing_variables x i && y.typed_variables x i
+  told_same a b c d e g h y reason.InferredName x = λ i. is_typescript s && y.met.beside_infer x i
+  told_same a b c d e g h y reason.HiddenParameter x = λ i. is_typescript s && y.noted.in_type_parameters x i && y.symbols.inner_variables x i
+  told_same a b c d e g h y reason.IndexParameter x = λ i. is_typescript s && y.met.in_own_index x i
+  told_same a b c d e g h y reason.SloppyFunction x = λ i. is_typescript s && y.noted.inner_functions x i && h x i
+  told_same a b c d e g h y reason.ExportedType x = λ i. is_typescript s && y.noted.exported_types x i && h x i
+  told_same a b c d e g h y reason.TypedVariable x = λ i. is_typescript s && y.noted.passing_variables x i && y.symbols.typed_variables x i
+  told_same a b c d e g h y reason.TypedFunctionName x = λ i. is_typescript s && y.symbols.own_names x i && y.symbols.types x i
 
   pub found_same : FactsHold f s ms t → tangles_from (λ (x : Name). filter (λ (r : Reason). told_by f s t r x) all_reasons) (λ x. false) 0 t.symbols ≡ tangles_in s ms t
   found_same tells = λ i. tangles_from (λ (x : Name). filter (λ (r : Reason). tells r x i) all_reasons) (λ x. false) 0 t.symbols

@@ -5,13 +5,17 @@ use Rattle.std.specs.Option.{is_some}
 use Rattle.semantic_syntax.specs.SourceTypes.{is_typescript}
 use Rattle.semantic_syntax.specs.Tables.{Name, Tables}
 use Rattle.semantic_syntax.specs.declared.source_type.SourceType.{SourceType}
+use Rattle.semantic_syntax.specs.declared.symbol_flags.TheConstants.SymbolFlags as symbol
 use Rattle.tangle_model.specs.Mention.{Mention}
-use Rattle.tangle_model.specs.Tangled.{holds_in, is_noted_as, any_mention, any_symbol, is_beside_infer, is_in_own_index, is_inner_variable, is_typed_variable}
+use Rattle.tangle_model.specs.Tangled.{holds_in, is_noted_as, any_mention, any_symbol, is_beside_infer, is_in_own_index, is_inner_variable, is_typed_variable, is_flagged}
 use Rattle.tangle_model.specs.declared.reason.Reason.{Reason}
 use Rattle.tangle_model.specs.declared.reason.Reason.TheVariants as reason
 use Rattle.tangle_model.specs.declared.what.What.TheVariants as what
 use Rattle.tangled_names.specs.Stored.{has_name}
 use Rattle.tangled_names.specs.declared.facts.NameFacts.{NameFacts}
+use Rattle.tangled_names.specs.declared.typed_facts.MetFacts.{MetFacts}
+use Rattle.tangled_names.specs.declared.typed_facts.NotedFacts.{NotedFacts}
+use Rattle.tangled_names.specs.declared.typed_facts.SymbolFacts.{SymbolFacts}
 use Rattle.tangled_names.specs.declared.typed_facts.TypedFacts.{TypedFacts}
 
 -- what the sets tell of a name, in a source of the type with these tables
@@ -24,23 +28,35 @@ facts_tell f s t reason.Eval name = has_name f.seen_by_eval name
 facts_tell f s t reason.FreeNamesake name = is_typescript s && is_some (lookup (bytes_eq name) t.free)
 facts_tell f s t reason.MergedMember name = has_name f.merged name
 facts_tell f s t reason.NamespaceNamesake name = is_typescript s && has_name f.passed name && has_name f.shared name
-facts_tell f s t reason.InferredName name = is_typescript s && has_name f.typed.beside_infer name
-facts_tell f s t reason.HiddenParameter name = is_typescript s && has_name f.typed.in_type_parameters name && has_name f.typed.inner_variables name
-facts_tell f s t reason.IndexParameter name = is_typescript s && has_name f.typed.in_own_index name
-facts_tell f s t reason.SloppyFunction name = is_typescript s && has_name f.typed.inner_functions name && has_name f.shared name
-facts_tell f s t reason.ExportedType name = is_typescript s && has_name f.typed.exported_types name && has_name f.shared name
-facts_tell f s t reason.TypedVariable name = is_typescript s && has_name f.typed.passing_variables name && has_name f.typed.typed_variables name
+facts_tell f s t reason.InferredName name = is_typescript s && has_name f.typed.met.beside_infer name
+facts_tell f s t reason.HiddenParameter name = is_typescript s && has_name f.typed.noted.in_type_parameters name && has_name f.typed.symbols.inner_variables name
+facts_tell f s t reason.IndexParameter name = is_typescript s && has_name f.typed.met.in_own_index name
+facts_tell f s t reason.SloppyFunction name = is_typescript s && has_name f.typed.noted.inner_functions name && has_name f.shared name
+facts_tell f s t reason.ExportedType name = is_typescript s && has_name f.typed.noted.exported_types name && has_name f.shared name
+facts_tell f s t reason.TypedVariable name = is_typescript s && has_name f.typed.noted.passing_variables name && has_name f.typed.symbols.typed_variables name
+facts_tell f s t reason.TypedFunctionName name = is_typescript s && has_name f.typed.symbols.own_names name && has_name f.typed.symbols.types name
 
--- what is known of TypeScript's names is what the definitions take from mentions and tables
-pub record TypedHold (f : TypedFacts) (ms : List Mention) (t : Tables) : Type 0 where
+-- what is known of names of TypeScript is what the definitions take from mentions and tables
+pub record MetHold (f : MetFacts) (ms : List Mention) : Type 0 where
   pub beside_infer : (x : Name) → has_name f.beside_infer x ≡ any_mention (is_beside_infer ms) ms x
   pub in_own_index : (x : Name) → has_name f.in_own_index x ≡ any_mention (is_in_own_index ms) ms x
+
+pub record NotedHold (f : NotedFacts) (ms : List Mention) : Type 0 where
   pub in_type_parameters : (x : Name) → has_name f.in_type_parameters x ≡ is_noted_as what.InTypeParameters ms x
-  pub inner_variables : (x : Name) → has_name f.inner_variables x ≡ any_symbol is_inner_variable t.symbols x
   pub inner_functions : (x : Name) → has_name f.inner_functions x ≡ is_noted_as what.InnerFunction ms x
   pub exported_types : (x : Name) → has_name f.exported_types x ≡ is_noted_as what.ExportedType ms x
   pub passing_variables : (x : Name) → has_name f.passing_variables x ≡ is_noted_as what.PassingVariable ms x
+
+pub record SymbolsHold (f : SymbolFacts) (t : Tables) : Type 0 where
+  pub inner_variables : (x : Name) → has_name f.inner_variables x ≡ any_symbol is_inner_variable t.symbols x
   pub typed_variables : (x : Name) → has_name f.typed_variables x ≡ any_symbol is_typed_variable t.symbols x
+  pub own_names : (x : Name) → has_name f.own_names x ≡ any_symbol (is_flagged symbol.FunctionExpression.bits) t.symbols x
+  pub types : (x : Name) → has_name f.types x ≡ any_symbol (is_flagged symbol.TypeFlag.bits) t.symbols x
+
+pub record TypedHold (f : TypedFacts) (ms : List Mention) (t : Tables) : Type 0 where
+  pub met : MetHold f.met ms
+  pub noted : NotedHold f.noted ms
+  pub symbols : SymbolsHold f.symbols t
 
 -- they tell what holds
 abbrev pub FactsHold : NameFacts → SourceType → List Mention → Tables → Type 0

@@ -2,7 +2,7 @@
 ghost use Rattle.std.specs.Prelude.{◌≡◌, ◌<◌, length};
 ghost use Rattle.semantic_syntax.specs.Reading.{scope_flags, scope_of, symbol_of};
 ghost use Rattle.tangle_model.specs.Repeated.{key_stands};
-ghost use Rattle.tangle_model.specs.Tangled.{is_seen_by_eval, is_bare_namespace, is_inner_alias, may_be_passed, is_inner_variable, is_typed_variable};
+ghost use Rattle.tangle_model.specs.Tangled.{is_seen_by_eval, is_bare_namespace, is_inner_alias, may_be_passed, is_inner_variable, is_typed_variable, is_flagged};
 ghost use Rattle.tangled_names.specs.Stored.{node_key};
 
 use crate::key_set::KeySet;
@@ -96,4 +96,12 @@ pub fn is_typed_variable(scoping: &Scoping, symbol: SymbolId) -> bool
 {
     let flags = scoping.symbol_flags(symbol);
     flags.intersects(SymbolFlags::FunctionScopedVariable) && flags.intersects(SymbolFlags::TypeFlag)
+}
+
+/// Whether the symbol has one of the flags.
+pub fn is_flagged(scoping: &Scoping, symbol: SymbolId, flags: SymbolFlags) -> bool
+    requires { symbol < length scoping.now.symbols }
+    ensures { result ≡ is_flagged flags.bits (symbol_of scoping.now symbol) }
+{
+    scoping.symbol_flags(symbol).intersects(flags)
 }

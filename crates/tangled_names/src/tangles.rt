@@ -99,23 +99,32 @@ fn holds(
         Reason::NamespaceNamesake => {
             is_typed && facts.passed.has_name(name) && facts.shared.has_name(name)
         }
-        Reason::InferredName => is_typed && facts.typed.beside_infer.has_name(name),
+        Reason::InferredName => is_typed && facts.typed.met.beside_infer.has_name(name),
         Reason::HiddenParameter => {
             is_typed
-                && facts.typed.in_type_parameters.has_name(name)
-                && facts.typed.inner_variables.has_name(name)
+                && facts.typed.noted.in_type_parameters.has_name(name)
+                && facts.typed.symbols.inner_variables.has_name(name)
         }
-        Reason::IndexParameter => is_typed && facts.typed.in_own_index.has_name(name),
+        Reason::IndexParameter => is_typed && facts.typed.met.in_own_index.has_name(name),
         Reason::SloppyFunction => {
-            is_typed && facts.typed.inner_functions.has_name(name) && facts.shared.has_name(name)
+            is_typed
+                && facts.typed.noted.inner_functions.has_name(name)
+                && facts.shared.has_name(name)
         }
         Reason::ExportedType => {
-            is_typed && facts.typed.exported_types.has_name(name) && facts.shared.has_name(name)
+            is_typed
+                && facts.typed.noted.exported_types.has_name(name)
+                && facts.shared.has_name(name)
         }
         Reason::TypedVariable => {
             is_typed
-                && facts.typed.passing_variables.has_name(name)
-                && facts.typed.typed_variables.has_name(name)
+                && facts.typed.noted.passing_variables.has_name(name)
+                && facts.typed.symbols.typed_variables.has_name(name)
+        }
+        Reason::TypedFunctionName => {
+            is_typed
+                && facts.typed.symbols.own_names.has_name(name)
+                && facts.typed.symbols.types.has_name(name)
         }
     }
 }
@@ -139,6 +148,7 @@ fn all_reasons() -> &'static [Reason]
         Reason::SloppyFunction,
         Reason::ExportedType,
         Reason::TypedVariable,
+        Reason::TypedFunctionName,
     ]
 }
 

@@ -272,9 +272,9 @@ own_types_f_parts : parting_uses own_types (codes "f") ≡ 15 ∷ []
 unfolding encode chars
 own_types_f_parts = refl
 
-own_types_f_untangled : tangle_reasons own_types (codes "f") ≡ []
+own_types_f_tangled : tangle_reasons own_types (codes "f") ≡ reason.TypedFunctionName ∷ []
 unfolding encode chars
-own_types_f_untangled = refl
+own_types_f_tangled = refl
 
 -- a decorator of a parameter stands outside of the method
 decorated_parameters_meant : map meant_identifiers (resolved_uses decorated_parameters) ≡ (15, 4 ∷ []) ∷ (22, 16 ∷ []) ∷ []

@@ -36,7 +36,7 @@ any_of test (y ∷ xs) x (inr a) h = or_second (test y) (list_any test xs) (any_
 abbrev pub later_reasons : List Reason
 later_reasons =
     reason.Eval ∷ reason.FreeNamesake ∷ reason.MergedMember ∷ reason.NamespaceNamesake ∷ reason.InferredName ∷ reason.HiddenParameter ∷ reason.IndexParameter
-    ∷ reason.SloppyFunction ∷ reason.ExportedType ∷ reason.TypedVariable ∷ []
+    ∷ reason.SloppyFunction ∷ reason.ExportedType ∷ reason.TypedVariable ∷ reason.TypedFunctionName ∷ []
 
 abbrev pub other_reasons : List Reason
 other_reasons = reason.BlockFunction ∷ reason.CatchVariable ∷ reason.Arguments ∷ later_reasons
