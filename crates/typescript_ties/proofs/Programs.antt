@@ -238,6 +238,24 @@ infers =
     ∷ [])
     ∷ [])
 
+-- `export {}; type X<T> = T extends [infer U] ? U : T;`
+abbrev pub infers_once : Tree
+infers_once =
+    program goal.Module lang.Ts
+    (node role.Body kind.ExportNamedDeclaration [] []
+    ∷ node role.Body kind.TSTypeAliasDeclaration []
+    (binding role.Id (codes "X")
+    ∷ node role.TypeParameters kind.TSTypeParameterDeclaration [] (node role.Params kind.TSTypeParameter [] (binding role.Name (codes "T") ∷ []) ∷ [])
+    ∷ node role.ValueType kind.TSConditionalType []
+    (node role.Check kind.TSTypeReference [] (reference role.Name (codes "T") ∷ [])
+    ∷ node role.Extends kind.TSTupleType []
+    (node role.Elements kind.TSInferType [] (node role.Parameter kind.TSTypeParameter [] (binding role.Name (codes "U") ∷ []) ∷ []) ∷ [])
+    ∷ node role.True kind.TSTypeReference [] (reference role.Name (codes "U") ∷ [])
+    ∷ node role.False kind.TSTypeReference [] (reference role.Name (codes "T") ∷ [])
+    ∷ [])
+    ∷ [])
+    ∷ [])
+
 -- `export {}; type X<T> = { [k in keyof T as k]: T[k] };`
 abbrev pub mapped : Tree
 mapped =
@@ -315,6 +333,10 @@ sloppy_blocks =
     (declared role.Body (codes "let") (binding role.Id (codes "f") ∷ number role.Init (codes "0") ∷ [])
     ∷ function role.Body (codes "g") [] (block role.Body (function role.Body (codes "f") [] [] ∷ mention (codes "f") ∷ []) ∷ mention (codes "f") ∷ [])
     ∷ [])
+
+-- `{ function f() {} f; }`
+abbrev pub sloppy_block : Tree
+sloppy_block = program goal.Script lang.Ts (block role.Body (function role.Body (codes "f") [] [] ∷ mention (codes "f") ∷ []) ∷ [])
 
 -- `export {}; { function f() {} f; } f;`
 abbrev pub strict_blocks : Tree
