@@ -338,6 +338,20 @@ sloppy_blocks =
 abbrev pub sloppy_block : Tree
 sloppy_block = program goal.Script lang.Ts (block role.Body (function role.Body (codes "f") [] [] ∷ mention (codes "f") ∷ []) ∷ [])
 
+-- `declare module "m" { "use strict"; { function f() {} f; } f; }`
+abbrev pub strict_module : Tree
+strict_module =
+    program goal.Script lang.Ts
+    (marked (mark.Declare ∷ []) role.Body kind.TSExternalModuleDeclaration []
+    (node role.Id kind.StringLiteral (codes "m") []
+    ∷ node role.Body kind.TSModuleBlock []
+    (node role.Directives kind.Directive (codes "use strict") (node role.Expression kind.StringLiteral (codes "use strict") [] ∷ [])
+    ∷ block role.Body (function role.Body (codes "f") [] [] ∷ mention (codes "f") ∷ [])
+    ∷ mention (codes "f")
+    ∷ [])
+    ∷ [])
+    ∷ [])
+
 -- `export {}; { function f() {} f; } f;`
 abbrev pub strict_blocks : Tree
 strict_blocks =

@@ -9,7 +9,7 @@ use Rattle.typescript_ties.specs.Resolved.{Resolved, nowhere, declared_in, Resol
 use Rattle.typescript_ties.specs.ResolvedTies.{parting_uses}
 use Rattle.typescript_ties.specs.TriedNames.{is_simple_name}
 use Rattle.typescript_ties.specs.SingleNames.{is_single_name}
-use Rattle.typescript_ties.proofs.Programs.{qualified, merged_namespaces, merged_enums, typed_export, exported_namespace, generics, generic_class, overloads, typed_imports, infers, infers_once, mapped, queries, ambient, sloppy_blocks, sloppy_block, strict_blocks, local_types, equated, typed_export_inside, index_parameters, hoisted_names, passed_types, own_names, own_types, decorated_parameters}
+use Rattle.typescript_ties.proofs.Programs.{qualified, merged_namespaces, merged_enums, typed_export, exported_namespace, generics, generic_class, overloads, typed_imports, infers, infers_once, mapped, queries, ambient, sloppy_blocks, sloppy_block, strict_blocks, strict_module, local_types, equated, typed_export_inside, index_parameters, hoisted_names, passed_types, own_names, own_types, decorated_parameters}
 
 abbrev identifiers_of : Resolved → List ℕ
 identifiers_of nowhere = []
@@ -180,7 +180,15 @@ sloppy_blocks_f_parts : parting_uses sloppy_blocks (codes "f") ≡ 17 ∷ []
 unfolding encode chars
 sloppy_blocks_f_parts = refl
 
--- in strict code it stays
+-- in strict code it stays, also in a module that is only declared
+strict_module_meant : map meant_identifiers (resolved_uses strict_module) ≡ (12, 8 ∷ []) ∷ (14, []) ∷ []
+unfolding encode chars
+strict_module_meant = refl
+
+strict_module_f_agrees : parting_uses strict_module (codes "f") ≡ []
+unfolding encode chars
+strict_module_f_agrees = refl
+
 strict_blocks_meant : map meant_identifiers (resolved_uses strict_blocks) ≡ (8, 4 ∷ []) ∷ (10, []) ∷ []
 unfolding encode chars
 strict_blocks_meant = refl
