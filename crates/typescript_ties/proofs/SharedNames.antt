@@ -20,7 +20,7 @@ use Rattle.semantic_model.proofs.once.ListedUnder.{name_tells}
 use Rattle.semantic_model.proofs.once.ReferencesStand.{stand_once}
 use Rattle.binding_laws.proofs.ListLaws.{filtered_out}
 use Rattle.tangle_model.specs.Mention.{mentions}
-use Rattle.tangle_model.specs.Tangled.{is_name_of, is_shared, holds_in, all_reasons, tangle_reasons}
+use Rattle.tangle_model.specs.Tangled.{any_mention, is_in_own_index, is_name_of, is_shared, holds_in, all_reasons, tangle_reasons}
 use Rattle.tangle_model.specs.declared.reason.Reason.{Reason}
 use Rattle.tangle_model.specs.declared.reason.Reason.TheVariants as reason
 use Rattle.typescript_ties.proofs.AgreedPlaces.{any_there}
@@ -75,6 +75,14 @@ module _ (p : Tree) (h : first_fault p ≡ None) (typed : is_typescript p.source
   not_free = by (is_typescript p.source_type) typed (holds_not reason.FreeNamesake (inr (inr (inr (inr (inr (inl refl)))))))
     where
       by : (t : Bool) → t ≡ true → (t && is_some (entry_of_name (bytes_eq x) (tables_of p).free)) ≡ false → is_some (entry_of_name (bytes_eq x) (tables_of p).free) ≡ false
+      by true e i = i
+      by false e i = absurd (never (sym e))
+
+  -- no index signature has it that is asked for it
+  pub asks_own_index : any_mention (is_in_own_index (mentions p)) (mentions p) x ≡ false
+  asks_own_index = by (is_typescript p.source_type) typed (holds_not reason.IndexParameter (inr (inr (inr (inr (inr (inr (inr (inr (inr (inr (inl refl))))))))))))
+    where
+      by : (t : Bool) → t ≡ true → (t && any_mention (is_in_own_index (mentions p)) (mentions p) x) ≡ false → any_mention (is_in_own_index (mentions p)) (mentions p) x ≡ false
       by true e i = i
       by false e i = absurd (never (sym e))
 

@@ -40,7 +40,7 @@ use Rattle.program_laws.proofs.TiedNames.{ties_have_names, declarations_have_nam
 use Rattle.binding_laws.proofs.ListLaws.{filter_among, among_filter, each_at}
 use Rattle.binding_laws.specs.SeenDeclarations.{seen_alone, with_declaration, bound_by_all, is_before_body, stands_before_body}
 use Rattle.tangle_model.specs.Mention.{mentions}
-use Rattle.tangle_model.specs.Tangled.{is_bare_namespace, is_inner_alias, may_be_passed, is_merged_member, is_shared, any_symbol, any_mention, is_in_own_index, holds_in, tangle_reasons}
+use Rattle.tangle_model.specs.Tangled.{is_bare_namespace, is_inner_alias, may_be_passed, is_merged_member, is_shared, any_symbol, holds_in, tangle_reasons}
 use Rattle.tangle_model.specs.declared.reason.Reason.TheVariants as reason
 use Rattle.typescript_ties.specs.AskedMeanings.{asked_by_reference}
 use Rattle.typescript_ties.specs.NamedDeclarations.{named_in}
@@ -61,7 +61,7 @@ use Rattle.typescript_ties.proofs.LikeFlags.{FlagsAlike, SeenAlike}
 use Rattle.binding_laws.proofs.ReferredNodes.{IsReferred, is_referred}
 use Rattle.binding_laws.proofs.SmallLaws.{never}
 use Rattle.typescript_ties.proofs.PartingUses.{none_part}
-use Rattle.typescript_ties.proofs.SharedNames.{two_share, holds_not, never_free}
+use Rattle.typescript_ties.proofs.SharedNames.{asks_own_index, two_share, holds_not, never_free}
 use Rattle.typescript_ties.proofs.SimpleDeclarations.{is_clear, clear_state}
 
 -- ---- flags
@@ -208,13 +208,6 @@ module _ (p : Tree) (h : first_fault p ≡ None) (common : is_common p ≡ true)
   hidden : holds_in p.source_type (mentions p) (tables_of p) reason.HiddenParameter x ≡ false
   hidden = holds_not p h typed x untangled reason.HiddenParameter (inr (inr (inr (inr (inr (inr (inr (inr (inr (inl refl))))))))))
 
-  asks_own_index : any_mention (is_in_own_index (mentions p)) (mentions p) x ≡ false
-  asks_own_index = by (is_typescript p.source_type) typed (holds_not p h typed x untangled reason.IndexParameter (inr (inr (inr (inr (inr (inr (inr (inr (inr (inr (inl refl))))))))))))
-    where
-      by : (t : Bool) → t ≡ true → (t && any_mention (is_in_own_index (mentions p)) (mentions p) x) ≡ false → any_mention (is_in_own_index (mentions p)) (mentions p) x ≡ false
-      by true e i = i
-      by false e i = absurd (never (sym e))
-
   unmerged : any_symbol (is_merged_member (mentions p) (tables_of p)) (tables_of p).symbols x ≡ false
   unmerged = holds_not p h typed x untangled reason.MergedMember (inr (inr (inr (inr (inr (inr (inl refl)))))))
 
@@ -339,7 +332,7 @@ module _ (p : Tree) (h : first_fault p ≡ None) (common : is_common p ≡ true)
     -- where the name is hidden, no value is asked for
     not_hidden : (is_past_parameter (named_in p) x q.node q.path ≡ true) ⊎ (under_index (named_in p) x q.path ≡ true) → (asked_by_reference q.path).value ≡ false
     not_hidden (inl i) = asks_past_none p h common typed numbered x name.simply hidden q entered refers is_x i
-    not_hidden (inr i) = absurd (asks_no_index p h numbered x asks_own_index q entered refers is_x i)
+    not_hidden (inr i) = absurd (asks_no_index p h numbered x (asks_own_index p h typed x untangled) q entered refers is_x i)
 
     use_agrees : is_use_tied (analysis_of p) (named_in p) (name_use p.source_type q) ≡ true
     use_agrees =

@@ -1,5 +1,5 @@
 -- Names that have one symbol, and mean something wherever they are referred to.
-use Rattle.std.specs.Prelude.{◌≡◌, List, Bool, true, false, ◌&&◌, ◌||◌, not, bytes_eq}
+use Rattle.std.specs.Prelude.{◌≡◌, Bool, true, false, ◌&&◌, ◌||◌, not, bytes_eq}
 use Rattle.std.specs.List.{list_all}
 use Rattle.semantic_kinds.specs.declared.kind.AstType.TheVariants as kind
 use Rattle.semantic_syntax.specs.Tables.{Name}
@@ -10,9 +10,8 @@ use Rattle.semantic_model.specs.Place.{Place}
 use Rattle.semantic_model.specs.Step.{Step, entering, steps}
 use Rattle.semantic_model.specs.TablesOf.{tables_of}
 use Rattle.tangle_model.specs.Tangled.{is_shared}
-use Rattle.typescript_ties.specs.NamedDeclarations.{NamedDeclaration, is_sort, named_in}
+use Rattle.typescript_ties.specs.NamedDeclarations.{named_in}
 use Rattle.typescript_ties.specs.Resolved.{Resolved, nowhere, declared_in, name_use, resolved_by}
-use Rattle.typescript_ties.specs.declared.declaration_sort.DeclarationSort.TheVariants as sort
 
 abbrev pub means_something : Resolved → Bool
 means_something nowhere = false
@@ -26,10 +25,9 @@ is_meant_at p q = means_something (resolved_by (named_in p) (name_use p.source_t
 abbrev pub IsMeantEverywhere : Tree → Name → Type 0
 IsMeantEverywhere p x = (q : Place) → Among (entering q) (steps p) → is kind.IdentifierReference q.node ≡ true → q.node.text ≡ x → is_meant_at p q ≡ true
 
--- two symbols don't have the name, and no index signature has it as its parameter, of which the tables know nothing
+-- no two symbols have the name, and it means something wherever it is referred to
 pub record IsSingleName (p : Tree) (x : Name) : Type 0 where
   pub alone : is_shared (tables_of p).symbols x ≡ false
-  pub known : (d : NamedDeclaration) → Among d (named_in p) → d.name ≡ x → is_sort sort.IndexParameter d ≡ false
   pub meant : IsMeantEverywhere p x
 
 -- the same, tried
@@ -38,6 +36,4 @@ is_meant_step p x (entering q) = not (is kind.IdentifierReference q.node && byte
 is_meant_step p x _ = true
 
 abbrev pub is_single_name : Tree → Name → Bool
-is_single_name p x =
-    (not (is_shared (tables_of p).symbols x) && list_all (λ d. not (bytes_eq d.name x) || not (is_sort sort.IndexParameter d)) (named_in p))
-    && list_all (is_meant_step p x) (steps p)
+is_single_name p x = not (is_shared (tables_of p).symbols x) && list_all (is_meant_step p x) (steps p)

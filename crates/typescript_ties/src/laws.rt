@@ -47,8 +47,8 @@ pub fn untangled_names_are_tied_as_they_mean()
 {}
 
 /// Tables and language agree on each reference of a name that isn't tangled and has one symbol, be it declared by `infer`, by a catch
-/// clause or by a function in a block of sloppy code, where each reference of it means something and no index signature has it as its
-/// parameter. Whether a name is such a one can be tried.
+/// clause or by a function in a block of sloppy code, where each reference of it means something. Whether a name is such a one can be
+/// tried.
 pub fn single_names_are_tied_as_they_mean()
     ensures agree { (p : Tree) (name : Name) → first_fault p ≡ None → is_common p ≡ true
         → is_typescript p.source_type ≡ true → IsNumbered p.root → tangle_reasons p name ≡ []
