@@ -20,6 +20,7 @@ pub mod VarPlaces
 pub mod VarRoutes
 pub mod Pairs
 pub mod SimpleOnes
+pub mod ToldDeclarations
 pub mod SimpleDeclarations
 pub mod Groups
 pub mod FitsTogether
@@ -29,6 +30,8 @@ pub mod OutsideGroups
 pub mod PastParameters
 pub mod AgreedPlaces
 pub mod HiddenParameters
+pub mod SharedNames
+pub mod PartingUses
 pub mod UntangledTies
 pub mod MergedBlocks
 pub mod SharedMembers
@@ -37,3 +40,4 @@ pub mod IndexPlaces
 pub mod IndexAsks
 pub mod OwnMembers
 pub mod SimpleByTrial
+pub mod SingleNames

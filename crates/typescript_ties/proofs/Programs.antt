@@ -238,6 +238,24 @@ infers =
     ∷ [])
     ∷ [])
 
+-- `export {}; type X<T> = T extends [infer U] ? U : T;`
+abbrev pub infers_once : Tree
+infers_once =
+    program goal.Module lang.Ts
+    (node role.Body kind.ExportNamedDeclaration [] []
+    ∷ node role.Body kind.TSTypeAliasDeclaration []
+    (binding role.Id (codes "X")
+    ∷ node role.TypeParameters kind.TSTypeParameterDeclaration [] (node role.Params kind.TSTypeParameter [] (binding role.Name (codes "T") ∷ []) ∷ [])
+    ∷ node role.ValueType kind.TSConditionalType []
+    (node role.Check kind.TSTypeReference [] (reference role.Name (codes "T") ∷ [])
+    ∷ node role.Extends kind.TSTupleType []
+    (node role.Elements kind.TSInferType [] (node role.Parameter kind.TSTypeParameter [] (binding role.Name (codes "U") ∷ []) ∷ []) ∷ [])
+    ∷ node role.True kind.TSTypeReference [] (reference role.Name (codes "U") ∷ [])
+    ∷ node role.False kind.TSTypeReference [] (reference role.Name (codes "T") ∷ [])
+    ∷ [])
+    ∷ [])
+    ∷ [])
+
 -- `export {}; type X<T> = { [k in keyof T as k]: T[k] };`
 abbrev pub mapped : Tree
 mapped =
@@ -314,6 +332,24 @@ sloppy_blocks =
     program goal.Script lang.Ts
     (declared role.Body (codes "let") (binding role.Id (codes "f") ∷ number role.Init (codes "0") ∷ [])
     ∷ function role.Body (codes "g") [] (block role.Body (function role.Body (codes "f") [] [] ∷ mention (codes "f") ∷ []) ∷ mention (codes "f") ∷ [])
+    ∷ [])
+
+-- `{ function f() {} f; }`
+abbrev pub sloppy_block : Tree
+sloppy_block = program goal.Script lang.Ts (block role.Body (function role.Body (codes "f") [] [] ∷ mention (codes "f") ∷ []) ∷ [])
+
+-- `declare module "m" { "use strict"; { function f() {} f; } f; }`
+abbrev pub strict_module : Tree
+strict_module =
+    program goal.Script lang.Ts
+    (marked (mark.Declare ∷ []) role.Body kind.TSExternalModuleDeclaration []
+    (node role.Id kind.StringLiteral (codes "m") []
+    ∷ node role.Body kind.TSModuleBlock []
+    (node role.Directives kind.Directive (codes "use strict") (node role.Expression kind.StringLiteral (codes "use strict") [] ∷ [])
+    ∷ block role.Body (function role.Body (codes "f") [] [] ∷ mention (codes "f") ∷ [])
+    ∷ mention (codes "f")
+    ∷ [])
+    ∷ [])
     ∷ [])
 
 -- `export {}; { function f() {} f; } f;`

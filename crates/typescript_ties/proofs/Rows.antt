@@ -8,7 +8,8 @@ use Rattle.tangle_model.specs.declared.reason.Reason.TheVariants as reason
 use Rattle.typescript_ties.specs.Resolved.{Resolved, nowhere, declared_in, ResolvedUse, resolved_uses}
 use Rattle.typescript_ties.specs.ResolvedTies.{parting_uses}
 use Rattle.typescript_ties.specs.TriedNames.{is_simple_name}
-use Rattle.typescript_ties.proofs.Programs.{qualified, merged_namespaces, merged_enums, typed_export, exported_namespace, generics, generic_class, overloads, typed_imports, infers, mapped, queries, ambient, sloppy_blocks, strict_blocks, local_types, equated, typed_export_inside, index_parameters, hoisted_names, passed_types, own_names, own_types, decorated_parameters}
+use Rattle.typescript_ties.specs.SingleNames.{is_single_name}
+use Rattle.typescript_ties.proofs.Programs.{qualified, merged_namespaces, merged_enums, typed_export, exported_namespace, generics, generic_class, overloads, typed_imports, infers, infers_once, mapped, queries, ambient, sloppy_blocks, sloppy_block, strict_blocks, strict_module, local_types, equated, typed_export_inside, index_parameters, hoisted_names, passed_types, own_names, own_types, decorated_parameters}
 
 abbrev identifiers_of : Resolved → List ℕ
 identifiers_of nowhere = []
@@ -179,7 +180,15 @@ sloppy_blocks_f_parts : parting_uses sloppy_blocks (codes "f") ≡ 17 ∷ []
 unfolding encode chars
 sloppy_blocks_f_parts = refl
 
--- in strict code it stays
+-- in strict code it stays, also in a module that is only declared
+strict_module_meant : map meant_identifiers (resolved_uses strict_module) ≡ (12, 8 ∷ []) ∷ (14, []) ∷ []
+unfolding encode chars
+strict_module_meant = refl
+
+strict_module_f_agrees : parting_uses strict_module (codes "f") ≡ []
+unfolding encode chars
+strict_module_f_agrees = refl
+
 strict_blocks_meant : map meant_identifiers (resolved_uses strict_blocks) ≡ (8, 4 ∷ []) ∷ (10, []) ∷ []
 unfolding encode chars
 strict_blocks_meant = refl
@@ -398,3 +407,28 @@ equated_C_free_of_reasons = refl
 overloads_f_free_of_reasons : tangle_reasons overloads (codes "f") ≡ []
 unfolding encode chars
 overloads_f_free_of_reasons = refl
+
+-- names with one symbol
+infers_once_U_single : is_single_name infers_once (codes "U") ≡ true
+unfolding encode chars
+infers_once_U_single = refl
+
+infers_once_U_free_of_reasons : tangle_reasons infers_once (codes "U") ≡ []
+unfolding encode chars
+infers_once_U_free_of_reasons = refl
+
+sloppy_block_f_single : is_single_name sloppy_block (codes "f") ≡ true
+unfolding encode chars
+sloppy_block_f_single = refl
+
+sloppy_block_f_free_of_reasons : tangle_reasons sloppy_block (codes "f") ≡ []
+unfolding encode chars
+sloppy_block_f_free_of_reasons = refl
+
+infers_U_not_single : is_single_name infers (codes "U") ≡ false
+unfolding encode chars
+infers_U_not_single = refl
+
+sloppy_blocks_f_not_single : is_single_name sloppy_blocks (codes "f") ≡ false
+unfolding encode chars
+sloppy_blocks_f_not_single = refl

@@ -20,7 +20,7 @@ use Rattle.typescript_ties.specs.TriedNames.{asks_at, declares_var, stands_apart
 use Rattle.typescript_ties.specs.declared.declaration_sort.DeclarationSort.TheVariants as sort
 use Rattle.typescript_ties.proofs.AgreedPlaces.{any_there}
 
-all_among : {A : Type 0} → (test : A → Bool) (xs : List A) (x : A) → list_all test xs ≡ true → Among x xs → test x ≡ true
+pub all_among : {A : Type 0} → (test : A → Bool) (xs : List A) (x : A) → list_all test xs ≡ true → Among x xs → test x ≡ true
 all_among test [] x h a = absurd a
 all_among test (y ∷ xs) x h (inl e) = subst (λ z. test z ≡ true) e (and_first (test y) (list_all test xs) h)
 all_among test (y ∷ xs) x h (inr a) = all_among test xs x (and_second (test y) (list_all test xs) h) a

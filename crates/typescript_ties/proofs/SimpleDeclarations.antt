@@ -1,65 +1,47 @@
 -- The declarations of a name that is declared simply, as the tables and as the language have them.
-use Rattle.std.proofs.Common.{◌≡◌, ℕ, List, [], ◌∷◌, ◌++◌, Some, None, Bool, true, false, ◌||◌, map, flat_map, refl, sym, ap, subst, ◌∙◌, inl, inr, ◌⊎◌}
+use Rattle.std.proofs.Common.{◌≡◌, ℕ, List, [], ◌∷◌, ◌++◌, Some, None, true, false, ◌||◌, map, refl, sym, ap, subst, ◌∙◌, inl, inr, ◌⊎◌}
 use Rattle.std.specs.Prelude.{slice_get}
 use Rattle.std.proofs.lemmas.Bool.{cases_Bool}
 use Rattle.std.proofs.lemmas.Bool.Decides.{eqb_tells}
 use Rattle.semantic_syntax.specs.Members.{contains}
-use Rattle.semantic_kinds.specs.Kinds.{same_kind}
-use Rattle.semantic_kinds.specs.declared.kind.AstType.{AstType}
-use Rattle.semantic_kinds.specs.declared.kind.AstType.TheVariants as kind
 use Rattle.semantic_syntax.specs.SourceTypes.{is_typescript}
 use Rattle.semantic_syntax.specs.Tables.{Name}
 use Rattle.semantic_tree.specs.Faults.{first_fault}
 use Rattle.semantic_tree.specs.Tree.{Tree, IsNumbered}
-use Rattle.semantic_model.specs.Binder.{declared_inside, declared_on_entering, declared_on_opening}
+use Rattle.semantic_model.specs.Binder.{declared_on_entering, declared_on_opening}
 use Rattle.semantic_model.specs.Binding.{get}
 use Rattle.semantic_model.specs.Declaration.{Declaration, plain, hoisted}
 use Rattle.semantic_model.specs.Entries.{Among}
-use Rattle.semantic_model.specs.Event.{Event, declares, takes_over, ends_header, declared, declarations, events, events_of, declares_all, taken_over, placed, placed_by, written_declarations}
+use Rattle.semantic_model.specs.Event.{declared, declarations, events, placed, placed_by, written_declarations}
 use Rattle.semantic_model.specs.Fold.{State, Made, start}
-use Rattle.semantic_model.specs.Hoist.{act, run}
+use Rattle.semantic_model.specs.Hoist.{run}
 use Rattle.semantic_model.specs.Inside.{opens}
-use Rattle.semantic_model.specs.Place.{Place, OpenScope, innermost}
+use Rattle.semantic_model.specs.Place.{Place, OpenScope}
 use Rattle.semantic_model.specs.ScopeKind.{opened_scope}
-use Rattle.semantic_model.specs.Step.{Step, entering, opening, header_ending, closing, leaving, steps}
+use Rattle.semantic_model.specs.Step.{entering, opening, steps}
 use Rattle.semantic_model.proofs.fits.NothingInvented.{made_declared}
 use Rattle.semantic_model.proofs.bindings.NearestVar.{nearest}
-use Rattle.semantic_model.proofs.fold.Orders.{Adds, adds, table_of}
-use Rattle.semantic_model.proofs.form.Shape.{has_form}
-use Rattle.semantic_model.proofs.lists.Members.{among_left, among_right, among_last, among_cases}
-use Rattle.program_laws.proofs.DeclaredNodes.{among_flat}
+use Rattle.semantic_model.proofs.fold.Orders.{table_of}
+use Rattle.semantic_model.proofs.lists.Members.{among_right}
 use Rattle.semantic_model.specs.TablesOf.{made_of}
-use Rattle.binding_laws.proofs.DeclaredMade.{made_stays, is_made}
-use Rattle.binding_laws.proofs.ListLaws.{of_flat, of_map, each_at}
+use Rattle.binding_laws.proofs.DeclaredMade.{is_made}
+use Rattle.binding_laws.proofs.ListLaws.{each_at}
 use Rattle.binding_laws.specs.SeenDeclarations.{is_own_name}
 use Rattle.typescript_ties.specs.DeclaredNames.{told_to_tables, told_by_language}
-use Rattle.typescript_ties.specs.NamedDeclarations.{NamedDeclaration, is_sort, named_by_node, named_at, named_in}
-use Rattle.typescript_ties.specs.SimpleNames.{is_common, is_simple_sort, is_simple, IsSimplyDeclared}
+use Rattle.typescript_ties.specs.NamedDeclarations.{NamedDeclaration, is_sort, named_by_node, named_in}
+use Rattle.typescript_ties.specs.SimpleNames.{is_common, IsSimplyDeclared}
 use Rattle.typescript_ties.specs.declared.declaration_sort.DeclarationSort.TheVariants as sort
-use Rattle.typescript_ties.proofs.HeadPlaces.{IsCommonPlace, CommonStep, common_places}
 use Rattle.typescript_ties.proofs.IndexPlaces.{other_sort}
-use Rattle.typescript_ties.proofs.KnownPlaces.{IsKnownPlace, KnownStep, known_places}
-use Rattle.typescript_ties.proofs.OwnScopes.{among_opened, OwnScope, OwnStep, own_program}
-use Rattle.typescript_ties.proofs.Pairs.{IsPassedAs, WayOf, stays, goes_out, IsSimplePair, AllPairs, pair_of_written, pair_of_named, pairs_by}
-use Rattle.binding_laws.proofs.ScopeOpeners.{openers, IsOpened, AllOpened, IsPlaceOpened, places_opened, innermost_opened, root_opener}
+use Rattle.typescript_ties.proofs.KnownPlaces.{IsKnownPlace}
+use Rattle.typescript_ties.proofs.OwnScopes.{among_opened, OwnStep, own_program}
+use Rattle.typescript_ties.proofs.Pairs.{IsPassedAs, WayOf, stays, goes_out, IsSimplePair, AllPairs, pair_of_written, pairs_by}
+use Rattle.binding_laws.proofs.ScopeOpeners.{openers, IsOpened, IsPlaceOpened, places_opened}
 use Rattle.binding_laws.proofs.SmallLaws.{never}
 use Rattle.typescript_ties.proofs.ClearFold.{AllClear, ClearState}
 use Rattle.typescript_ties.proofs.ClearTies.{clear_at_last}
 use Rattle.typescript_ties.proofs.LikeFlags.{IsVariable}
-use Rattle.typescript_ties.proofs.VarRoutes.{StandsWell, StandingStep, all_stand_well}
-use Rattle.typescript_ties.proofs.SimpleOnes.{sort_is_simple}
+use Rattle.typescript_ties.proofs.ToldDeclarations.{common_at, known_at, chain_opened, head_opened, OwnCount, own_count, well_at, IsTold, told_of}
 use Rattle.typescript_ties.proofs.UndeclaredFree.{IsWritten, is_written, not_index, named_among}
-
--- ---- lists
-
--- ---- what is declared was made
-
--- what a node declares in its own scope, it opens one for
-opens_inside : (q : Place) (own : OpenScope) (w : Declaration) (k : AstType) → Among w (declared_inside k q own) → opens k ≡ true
-opens_inside q own w kind.Function a = refl
-opens_inside q own w kind.Class a = refl
-opens_inside q own w kind.TSMappedType a = refl
-opens_inside q own w _ a = absurd a
 
 -- ---- the program
 
@@ -80,31 +62,6 @@ module _ (p : Tree) (h : first_fault p ≡ None) (common : is_common p ≡ true)
     pub pair : IsSimplePair p d n
     pub opened : IsOpened (openers (steps p)) d.route.target
 
-  common_at : (q : Place) → Among (entering q) (steps p) → IsCommonPlace p q
-  common_at q a = each_at (CommonStep p) (steps p) (entering q) (common_places p h common numbered) a
-
-  known_at : (q : Place) → Among (entering q) (steps p) → IsKnownPlace q
-  known_at q a = each_at KnownStep (steps p) (entering q) (known_places p h) a
-
-  chain_opened : (q : Place) → Among (entering q) (steps p) → AllOpened (openers (steps p)) q.chain
-  chain_opened q a = each_at (IsPlaceOpened (openers (steps p))) (steps p) (entering q) (places_opened p) a
-
-  head_opened : (q : Place) → Among (entering q) (steps p) → IsOpened (openers (steps p)) (innermost q.chain)
-  head_opened q a = innermost_opened (openers (steps p)) (root_opener p (has_form p h).root numbered) q.chain (chain_opened q a)
-
-  -- the number of a place's scope
-  record OwnCount (q : Place) : Type 0 where
-    count : ℕ
-    opened : opens q.node.kind ≡ true → IsOpened (openers (steps p)) (opened_scope q count)
-    among : opens q.node.kind ≡ true → Among (opening q (opened_scope q count)) (steps p)
-
-  own_count : (q : Place) → Among (entering q) (steps p) → OwnCount q
-  own_count q a = by (opens q.node.kind) refl (each_at (OwnStep (steps p) (openers (steps p))) (steps p) (entering q) (own_program p) a)
-    where
-      by : (b : Bool) → opens q.node.kind ≡ b → (opens q.node.kind ≡ true → OwnScope (steps p) (openers (steps p)) q) → OwnCount q
-      by true i f = let o : OwnScope (steps p) (openers (steps p)) q = f i in record { count = o.count; opened = λ e. o.opened; among = λ e. o.among }
-      by false i f = record { count = 0; opened = λ e. absurd (never (sym e ∙ i)); among = λ e. absurd (never (sym e ∙ i)) }
-
   -- that of a declaration as it is written
   record WrittenCount (d : Declaration) (w : IsWritten p d) : Type 0 where
     count : ℕ
@@ -114,11 +71,8 @@ module _ (p : Tree) (h : first_fault p ≡ None) (common : is_common p ≡ true)
   written_count : (d : Declaration) (w : IsWritten p d) → WrittenCount d w
   written_count d w = elim w.opened [
     | inl a ↦ record { count = w.count; opened = λ e. each_at (OwnStep (steps p) (openers (steps p))) (steps p) (opening w.place (opened_scope w.place w.count)) (own_program p) a; among = w.among }
-    | inr a ↦ (let o : OwnCount w.place = own_count w.place w.entered in record { count = o.count; opened = o.opened; among = among_right w.written (declared_on_opening w.place (opened_scope w.place o.count)) (declared_on_entering w.place) a })
+    | inr a ↦ (let o : OwnCount p h common typed numbered w.place = own_count p h common typed numbered w.place w.entered in record { count = o.count; opened = o.opened; among = among_right w.written (declared_on_opening w.place (opened_scope w.place o.count)) (declared_on_entering w.place) a })
   ]
-
-  well_at : (q : Place) → Among (entering q) (steps p) → StandsWell p q
-  well_at q a = each_at (StandingStep p) (steps p) (entering q) (all_stand_well p h common numbered) a
 
   stays_placed : (w : Declaration) (n : NamedDeclaration) → WayOf p w n → placed ds w ≡ w
   stays_placed w n (stays e) = ap (λ how. placed_by how ds w) e
@@ -130,10 +84,10 @@ module _ (p : Tree) (h : first_fault p ≡ None) (common : is_common p ≡ true)
   pub of_tables : (d : Declaration) → Among d all → d.naming.name ≡ x → (n : NamedDeclaration) × IsBoth d n
   of_tables d a e =
       let w : IsWritten p d = is_written p d a in
-      let k : IsKnownPlace w.place = known_at w.place w.entered in
+      let k : IsKnownPlace w.place = known_at p h common typed numbered w.place w.entered in
       let o : WrittenCount d w = written_count d w in
       let pairs : AllPairs p (declared_on_opening w.place (opened_scope w.place o.count) ++ declared_on_entering w.place) (named_by_node w.place.node.kind p.source_type w.place.node w.place.path) =
-      pairs_by p w.place w.entered (common_at w.place w.entered) (well_at w.place w.entered) typed o.count (chain_opened w.place w.entered) (head_opened w.place w.entered) o.opened w.place.node.kind refl (not_index w.place o.count w.written o.among) k.whole k.rooted in
+      pairs_by p w.place w.entered (common_at p h common typed numbered w.place w.entered) (well_at p h common typed numbered w.place w.entered) typed o.count (chain_opened p h common typed numbered w.place w.entered) (head_opened p h common typed numbered w.place w.entered) o.opened w.place.node.kind refl (not_index w.place o.count w.written o.among) k.whole k.rooted in
       let (n, b, c) = pair_of_written p (declared_on_opening w.place (opened_scope w.place o.count) ++ declared_on_entering w.place) (named_by_node w.place.node.kind p.source_type w.place.node w.place.path) pairs w.written o.among in
       let same_name : w.written.naming.name ≡ x = ap (λ z. z.name) (w.naming_same) ∙ e in
       let among : Among n (named_in p) = named_among p (steps p) w.place n w.entered b in
@@ -153,53 +107,21 @@ module _ (p : Tree) (h : first_fault p ≡ None) (common : is_common p ≡ true)
         },
       )
 
-  entered_of : (n : NamedDeclaration) (ss : List Step) → Among n (flat_map (named_at p.source_type) ss) → (q : Place) × Among (entering q) ss × Among n (named_by_node q.node.kind p.source_type q.node q.path)
-  entered_of n [] a = absurd a
-  entered_of n (st ∷ ss) a =
-      let (z, b, c) = among_flat (named_at p.source_type) (st ∷ ss) n a in go z b c
-    where
-      go : (z : Step) → Among z (st ∷ ss) → Among n (named_at p.source_type z) → (q : Place) × Among (entering q) (st ∷ ss) × Among n (named_by_node q.node.kind p.source_type q.node q.path)
-      go (entering q) b c = (q, b, c)
-      go (opening q o) b c = absurd c
-      go (header_ending q o) b c = absurd c
-      go (closing q o) b c = absurd c
-      go (leaving q) b c = absurd c
-
   pub of_language : (n : NamedDeclaration) → Among n (named_in p) → n.name ≡ x → is_sort sort.IndexParameter n ≡ false → (d : Declaration) × IsBoth d n
   of_language n a e other =
-      let (q, entered, b) = entered_of n (steps p) a in
-      let k : IsKnownPlace q = known_at q entered in
-      let is_so : is_simple n ≡ true = simply.each n a e other in
-      let indexed : same_kind q.node.kind kind.TSIndexSignatureName ≡ false = no_index q n q.node.kind b is_so in
-      let o : OwnCount q = own_count q entered in
-      let own : OpenScope = opened_scope q o.count in
-      let pairs : AllPairs p (declared_on_opening q own ++ declared_on_entering q) (named_by_node q.node.kind p.source_type q.node q.path) =
-      pairs_by p q entered (common_at q entered) (well_at q entered) typed o.count (chain_opened q entered) (head_opened q entered) o.opened q.node.kind refl indexed k.whole k.rooted in
-      let (w, i, c) = pair_of_named p (declared_on_opening q own ++ declared_on_entering q) (named_by_node q.node.kind p.source_type q.node q.path) pairs n b in
-      let simple : IsSimplePair p w n = c.simple is_so in
-      let event : Among (declares (placed ds w)) (events (steps p)) = elim (among_cases w (declared_on_opening q own) (declared_on_entering q) i) [
-        | inl j ↦ of_flat (events_of ds) (steps p) (opening q own) (declares (placed ds w)) (o.among (opens_inside q own w q.node.kind j))
-            (among_right (declares (placed ds w)) (taken_over q own) (declares_all ds (declared_on_opening q own)) (of_map (λ z. declares (placed ds z)) (declared_on_opening q own) w j))
-        | inr j ↦ of_flat (events_of ds) (steps p) (entering q) (declares (placed ds w)) entered (of_map (λ z. declares (placed ds z)) (declared_on_entering q) w j)
-      ] in
-      let among : Among (placed ds w) all = of_flat declared (events (steps p)) (declares (placed ds w)) (placed ds w) event (inl refl) in (
-        w,
+      let t : IsTold p h common typed numbered n = told_of p h common typed numbered n a other in
+      let simple : IsSimplePair p t.written n = t.pair.simple (simply.each n a e other) in (
+        t.written,
         record {
-          among = subst (λ z. Among z all) (stays_placed w n simple.how) among;
+          among = subst (λ z. Among z all) (stays_placed t.written n simple.how) t.among;
           named = a;
           named_so = e;
           other = other;
-          told = c.told;
+          told = t.pair.told;
           pair = simple;
           opened = simple.home.opened;
         },
       )
-    where
-      no_index : (q : Place) (n : NamedDeclaration) (k : AstType) → Among n (named_by_node k p.source_type q.node q.path) → is_simple n ≡ true → same_kind k kind.TSIndexSignatureName ≡ false
-      no_index q n kind.TSIndexSignatureName (inl i) u = absurd (never (sym (subst (λ z. is_simple_sort z ≡ true) (sym (ap (λ (m : NamedDeclaration). m.sort) i)) (sort_is_simple n u))))
-      no_index q n kind.TSIndexSignatureName (inr i) u = absurd i
-      no_index q n kind.Program a u = refl
-      no_index q n _ a u = refl
 
   -- what is made is declared
   pub of_made : (m : Made) → Among m (made_of p) → Among m.declaration all

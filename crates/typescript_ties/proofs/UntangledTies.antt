@@ -1,17 +1,14 @@
 -- References of a name that isn't tangled are tied to what it means.
-use Rattle.std.proofs.Common.{◌≡◌, ℕ, zero, suc, ◌==◌, List, [], ◌∷◌, Option, Some, None, Bool, true, false, ◌&&◌, ◌||◌, not, cond, refl, sym, ap, subst, ◌∙◌, inl, inr, ◌⊎◌, bytes_eq, codes, map, filter, filter_map, fold, arith}
+use Rattle.std.proofs.Common.{◌≡◌, ℕ, ◌==◌, List, [], ◌∷◌, Option, Some, None, Bool, true, false, ◌&&◌, ◌||◌, not, cond, refl, sym, ap, subst, ◌∙◌, inl, inr, ◌⊎◌, bytes_eq, codes, map, filter, fold}
 use Rattle.std.specs.List.{list_all}
-use Rattle.std.specs.Map.{lookup as entry_of_name}
-use Rattle.std.specs.Option.{is_some}
-use Rattle.std.specs.Prelude.{slice_get}
 use Rattle.std.proofs.lemmas.Bool.{cases_Bool, and_from, eq-eqb, or_parts}
 use Rattle.std.proofs.lemmas.Bool.Decides.{eqb_tells}
-use Rattle.semantic_syntax.proofs.Truth.{and_first, and_second, and_false}
+use Rattle.semantic_syntax.proofs.Truth.{and_first, and_second}
 use Rattle.semantic_kinds.specs.declared.kind.AstType.TheVariants as kind
 use Rattle.semantic_syntax.specs.Lookup.{Seen, is_arguments, lookup}
 use Rattle.semantic_syntax.specs.Sets.{meets, union}
 use Rattle.semantic_syntax.specs.SourceTypes.{is_typescript}
-use Rattle.semantic_syntax.specs.Tables.{Name, Symbol, FreeLists}
+use Rattle.semantic_syntax.specs.Tables.{Name, Symbol}
 use Rattle.semantic_syntax.specs.Usable.{asks_for_namespace, is_usable}
 use Rattle.semantic_syntax.specs.declared.reference_flags.TheConstants.ReferenceFlags as way
 use Rattle.semantic_syntax.specs.declared.symbol_flags.TheConstants.SymbolFlags as symbol
@@ -21,15 +18,13 @@ use Rattle.semantic_tree.specs.Views.{is}
 use Rattle.semantic_model.specs.Analysis.{analysis_of, symbol_at}
 use Rattle.semantic_model.specs.Binding.{get}
 use Rattle.semantic_model.specs.Cursor.{way_or_read}
-use Rattle.semantic_model.specs.Entries.{Among, times}
+use Rattle.semantic_model.specs.Entries.{Among}
 use Rattle.semantic_model.specs.Event.{events, declarations}
-use Rattle.semantic_model.specs.Fits.{StandsUnder}
 use Rattle.semantic_model.specs.Fold.{State, Made, start, flags_or_none}
-use Rattle.semantic_model.specs.FreeNames.{free_references}
 use Rattle.semantic_model.specs.Hoist.{run}
 use Rattle.semantic_model.specs.Place.{Place, OpenScope}
 use Rattle.semantic_model.specs.Reference.{reference_at}
-use Rattle.semantic_model.specs.Step.{Step, entering, opening, header_ending, closing, leaving, steps}
+use Rattle.semantic_model.specs.Step.{entering, steps}
 use Rattle.semantic_model.specs.TablesOf.{tables_of, made_of}
 use Rattle.semantic_model.specs.Tie.{seen_as, symbol_by}
 use Rattle.semantic_model.proofs.bindings.NearestVar.{nearest}
@@ -40,18 +35,16 @@ use Rattle.semantic_model.proofs.form.Shape.{has_form}
 use Rattle.semantic_model.proofs.lists.BindingLaws.{get_among}
 use Rattle.semantic_model.proofs.lists.Members.{among_at}
 use Rattle.semantic_model.proofs.once.ListedUnder.{name_tells}
-use Rattle.semantic_model.proofs.once.ReferencesStand.{stand_once}
 use Rattle.program_laws.specs.SymbolNames.{IsNamed}
 use Rattle.program_laws.proofs.TiedNames.{ties_have_names, declarations_have_names}
-use Rattle.binding_laws.proofs.ListLaws.{filtered_out, filter_among, among_filter, each_at}
+use Rattle.binding_laws.proofs.ListLaws.{filter_among, among_filter, each_at}
 use Rattle.binding_laws.specs.SeenDeclarations.{seen_alone, with_declaration, bound_by_all, is_before_body, stands_before_body}
 use Rattle.tangle_model.specs.Mention.{mentions}
-use Rattle.tangle_model.specs.Tangled.{is_bare_namespace, is_inner_alias, may_be_passed, is_merged_member, is_name_of, is_shared, any_symbol, any_mention, is_in_own_index, holds_in, all_reasons, tangle_reasons}
-use Rattle.tangle_model.specs.declared.reason.Reason.{Reason}
+use Rattle.tangle_model.specs.Tangled.{is_bare_namespace, is_inner_alias, may_be_passed, is_merged_member, is_shared, any_symbol, holds_in, tangle_reasons}
 use Rattle.tangle_model.specs.declared.reason.Reason.TheVariants as reason
 use Rattle.typescript_ties.specs.AskedMeanings.{asked_by_reference}
 use Rattle.typescript_ties.specs.NamedDeclarations.{named_in}
-use Rattle.typescript_ties.specs.Resolved.{Resolved, nowhere, declared_in, resolve, NameUse, name_use, used_at}
+use Rattle.typescript_ties.specs.Resolved.{Resolved, nowhere, declared_in, resolve, name_use}
 use Rattle.typescript_ties.specs.ResolvedTies.{is_that_symbol, is_untied, is_tied_to_each, is_tied_as_resolved, is_use_tied, parting_uses}
 use Rattle.typescript_ties.specs.SeenTogether.{is_in_scope, is_seen_from, bound_together, asked_together}
 use Rattle.typescript_ties.specs.SimpleNames.{is_common, HasOwnMembers, IsSimpleName}
@@ -66,48 +59,10 @@ use Rattle.typescript_ties.proofs.ClearFold.{ClearState}
 use Rattle.typescript_ties.proofs.ClearTies.{clearly_tied}
 use Rattle.typescript_ties.proofs.LikeFlags.{FlagsAlike, SeenAlike}
 use Rattle.binding_laws.proofs.ReferredNodes.{IsReferred, is_referred}
-use Rattle.binding_laws.proofs.SmallLaws.{never, not_empty}
+use Rattle.binding_laws.proofs.SmallLaws.{never}
+use Rattle.typescript_ties.proofs.PartingUses.{none_part}
+use Rattle.typescript_ties.proofs.SharedNames.{asks_own_index, two_share, holds_not, never_free}
 use Rattle.typescript_ties.proofs.SimpleDeclarations.{is_clear, clear_state}
-
--- ---- reasons
-
--- ---- symbols of one name
-
-name_among : (ys : List Symbol) (i : ℕ) (y : Symbol) (x : Name) → slice_get ys i ≡ Some y → y.name ≡ x → is_name_of ys x ≡ true
-name_among ys i y x at e = any_there (λ z. bytes_eq x z.name) ys y (among_at ys i y at) (elim (name_tells x y.name) [ inl j ↦ j.0 | inr j ↦ absurd (j.1 (sym e)) ])
-
-two_share : (ys : List Symbol) (i j : ℕ) (y z : Symbol) (x : Name) → slice_get ys i ≡ Some y → slice_get ys j ≡ Some z → y.name ≡ x → z.name ≡ x → is_shared ys x ≡ false → i ≡ j
-two_share [] i j y z x a b e f h = absurd cc
-two_share (u ∷ ys) zero zero y z x a b e f h = refl
-two_share (u ∷ ys) zero (suc j) y z x a b e f h =
-    let first : u ≡ y = cc in
-    let same : bytes_eq x u.name ≡ true = elim (name_tells x u.name) [ inl k ↦ k.0 | inr k ↦ absurd (k.1 (sym (ap (λ v. v.name) first ∙ e))) ] in
-    absurd (never (sym (name_among ys j z x b f) ∙ sym (ap (λ t. cond t (is_name_of ys x) (is_shared ys x)) same) ∙ h))
-two_share (u ∷ ys) (suc i) zero y z x a b e f h =
-    let first : u ≡ z = cc in
-    let same : bytes_eq x u.name ≡ true = elim (name_tells x u.name) [ inl k ↦ k.0 | inr k ↦ absurd (k.1 (sym (ap (λ v. v.name) first ∙ f))) ] in
-    absurd (never (sym (name_among ys i y x a e) ∙ sym (ap (λ t. cond t (is_name_of ys x) (is_shared ys x)) same) ∙ h))
-two_share (u ∷ ys) (suc i) (suc j) y z x a b e f h = ap suc (by (bytes_eq x u.name) h (two_share ys i j y z x a b e f))
-  where
-    by : (t : Bool) → cond t (is_name_of ys x) (is_shared ys x) ≡ false → (is_shared ys x ≡ false → i ≡ j) → i ≡ j
-    by true g later = absurd (never (sym (name_among ys i y x a e) ∙ g))
-    by false g later = later g
-
--- ---- free names
-
-no_entry : (fs : FreeLists) (x : Name) → is_some (entry_of_name (bytes_eq x) fs) ≡ false → free_references fs x ≡ []
-no_entry [] x h = refl
-no_entry (f ∷ fs) x h = by (bytes_eq x f.0) refl h (no_entry fs x)
-  where
-    by : (t : Bool) → bytes_eq x f.0 ≡ t → is_some (cond t (Some f.1) (entry_of_name (bytes_eq x) fs)) ≡ false → (is_some (entry_of_name (bytes_eq x) fs) ≡ false → free_references fs x ≡ []) → free_references (f ∷ fs) x ≡ []
-    by true e g later = absurd (never g)
-    by false e g later = rw (other e) (later g)
-      where
-        other : bytes_eq x f.0 ≡ false → bytes_eq f.0 x ≡ false
-        other i = elim (name_tells f.0 x) [
-          | inr j ↦ j.0
-          | inl j ↦ absurd (elim (name_tells x f.0) [ inl k ↦ never (sym k.0 ∙ i) | inr k ↦ k.1 (sym j.1) ])
-        ]
 
 -- ---- flags
 
@@ -239,21 +194,11 @@ module _ (p : Tree) (x : Name) (w : ℕ) (no_arguments : bytes_eq x (codes "argu
 -- ---- the program
 
 module _ (p : Tree) (h : first_fault p ≡ None) (common : is_common p ≡ true) (typed : is_typescript p.source_type ≡ true) (numbered : IsNumbered p.root) (x : Name) (untangled : tangle_reasons p x ≡ []) (name : IsSimpleName p x) where
-  holds_not : (r : Reason) → Among r all_reasons → holds_in p.source_type (mentions p) (tables_of p) r x ≡ false
-  holds_not r a = filtered_out (λ r. holds_in p.source_type (mentions p) (tables_of p) r x) all_reasons r untangled a
-
   no_arguments : bytes_eq x (codes "arguments") ≡ false
-  no_arguments = holds_not reason.Arguments (inr (inr (inl refl)))
-
-  not_free : is_some (entry_of_name (bytes_eq x) (tables_of p).free) ≡ false
-  not_free = by (is_typescript p.source_type) typed (holds_not reason.FreeNamesake (inr (inr (inr (inr (inr (inl refl)))))))
-    where
-      by : (t : Bool) → t ≡ true → (t && is_some (entry_of_name (bytes_eq x) (tables_of p).free)) ≡ false → is_some (entry_of_name (bytes_eq x) (tables_of p).free) ≡ false
-      by true e i = i
-      by false e i = absurd (never (sym e))
+  no_arguments = holds_not p h typed x untangled reason.Arguments (inr (inr (inl refl)))
 
   not_shared : any_symbol may_be_passed (tables_of p).symbols x ≡ true → is_shared (tables_of p).symbols x ≡ false
-  not_shared e = by (is_typescript p.source_type) (any_symbol may_be_passed (tables_of p).symbols x) typed e (holds_not reason.NamespaceNamesake (inr (inr (inr (inr (inr (inr (inr (inl refl)))))))))
+  not_shared e = by (is_typescript p.source_type) (any_symbol may_be_passed (tables_of p).symbols x) typed e (holds_not p h typed x untangled reason.NamespaceNamesake (inr (inr (inr (inr (inr (inr (inr (inl refl)))))))))
     where
       by : (t u : Bool) → t ≡ true → u ≡ true → ((t && u) && is_shared (tables_of p).symbols x) ≡ false → is_shared (tables_of p).symbols x ≡ false
       by true true i j k = k
@@ -261,17 +206,10 @@ module _ (p : Tree) (h : first_fault p ≡ None) (common : is_common p ≡ true)
       by false u i j k = absurd (never (sym i))
 
   hidden : holds_in p.source_type (mentions p) (tables_of p) reason.HiddenParameter x ≡ false
-  hidden = holds_not reason.HiddenParameter (inr (inr (inr (inr (inr (inr (inr (inr (inr (inl refl))))))))))
-
-  asks_own_index : any_mention (is_in_own_index (mentions p)) (mentions p) x ≡ false
-  asks_own_index = by (is_typescript p.source_type) typed (holds_not reason.IndexParameter (inr (inr (inr (inr (inr (inr (inr (inr (inr (inr (inl refl))))))))))))
-    where
-      by : (t : Bool) → t ≡ true → (t && any_mention (is_in_own_index (mentions p)) (mentions p) x) ≡ false → any_mention (is_in_own_index (mentions p)) (mentions p) x ≡ false
-      by true e i = i
-      by false e i = absurd (never (sym e))
+  hidden = holds_not p h typed x untangled reason.HiddenParameter (inr (inr (inr (inr (inr (inr (inr (inr (inr (inl refl))))))))))
 
   unmerged : any_symbol (is_merged_member (mentions p) (tables_of p)) (tables_of p).symbols x ≡ false
-  unmerged = holds_not reason.MergedMember (inr (inr (inr (inr (inr (inr (inl refl)))))))
+  unmerged = holds_not p h typed x untangled reason.MergedMember (inr (inr (inr (inr (inr (inr (inl refl)))))))
 
   alone_members : HasOwnMembers p x
   alone_members = own_members p h common typed numbered x name.simply unmerged
@@ -294,16 +232,7 @@ module _ (p : Tree) (h : first_fault p ≡ None) (common : is_common p ≡ true)
     tied_is : referred.entry.symbol_id ≡ looked_up p h common typed numbered x no_arguments name.simply alone_members w q.chain
     tied_is = clearly_tied p h numbered x (is_clear p h common typed numbered x name.simply) referred.number (reference_at q) referred.entry referred.reference referred.row is_x
 
-    -- it isn't free
-    never_free : referred.entry.symbol_id ≡ None → ⊥
-    never_free e =
-        let under : StandsUnder (tables_of p) referred.number q.node.text referred.entry.symbol_id = (stand_once p (has_form p h)).under referred.number (reference_at q) referred.entry referred.reference referred.row in
-        let once : times referred.number (free_references (tables_of p).free q.node.text) ≡ 1 = subst (λ o. StandsUnder (tables_of p) referred.number q.node.text o) e under in
-        let none : free_references (tables_of p).free q.node.text ≡ [] = no_entry (tables_of p).free q.node.text (subst (λ y. is_some (entry_of_name (bytes_eq y) (tables_of p).free) ≡ false) (sym is_x) not_free) in
-        let zero_is : 0 ≡ 1 = sym (ap (times referred.number) none) ∙ once in
-        absurd (omega (arith, zero_is))
-
-    -- nor is a namespace passed that is no type
+    -- no namespace is passed that is no type
     module _ (m : IsMissed p h common typed numbered x no_arguments name.simply alone_members w) where
       m_named : m.made.declaration.naming.name ≡ x
       m_named = elim (name_tells m.made.declaration.naming.name x) [ inl j ↦ j.1 | inr j ↦ absurd (never (sym (and_second (m.made.declaration.route.target.number == m.scope) (bytes_eq m.made.declaration.naming.name x) m.in_it) ∙ j.0)) ]
@@ -384,7 +313,7 @@ module _ (p : Tree) (h : first_fault p ≡ None) (common : is_common p ≡ true)
       never_missed = by referred.entry.symbol_id refl
         where
           by : (o : Option ℕ) → referred.entry.symbol_id ≡ o → ⊥
-          by None e = never_free e
+          by None e = never_free p h typed x untangled q referred is_x e
           by (Some y) e =
               let other : IsNamed (tables_of p) y x = subst (IsNamed (tables_of p) y) is_x (ties_have_names p (has_form p h) referred.number y (reference_at q) referred.entry referred.reference referred.row e) in
               let same : y ≡ m.number = two_share (tables_of p).symbols y m.number other.symbol missed_symbol.symbol x other.is_there missed_symbol.is_there other.named missed_symbol.named alone in
@@ -403,9 +332,9 @@ module _ (p : Tree) (h : first_fault p ≡ None) (common : is_common p ≡ true)
     -- where the name is hidden, no value is asked for
     not_hidden : (is_past_parameter (named_in p) x q.node q.path ≡ true) ⊎ (under_index (named_in p) x q.path ≡ true) → (asked_by_reference q.path).value ≡ false
     not_hidden (inl i) = asks_past_none p h common typed numbered x name.simply hidden q entered refers is_x i
-    not_hidden (inr i) = absurd (asks_no_index p h numbered x asks_own_index q entered refers is_x i)
+    not_hidden (inr i) = absurd (asks_no_index p h numbered x (asks_own_index p h typed x untangled) q entered refers is_x i)
 
-    pub use_agrees : is_use_tied (analysis_of p) (named_in p) (name_use p.source_type q) ≡ true
+    use_agrees : is_use_tied (analysis_of p) (named_in p) (name_use p.source_type q) ≡ true
     use_agrees =
         let agree : AgreesRound p h common typed numbered x no_arguments name.simply alone_members q = (each_at (AgreedStep p h common typed numbered x no_arguments name.simply alone_members) (steps p) (entering q) (agreed_places p h common typed numbered x no_arguments name.simply alone_members) entered).0 in
         let matches : Matches p h common typed numbered x no_arguments name.simply alone_members w (looked_up p h common typed numbered x no_arguments name.simply alone_members w q.chain) (resolve (named_in p) (round_place p q) (asked_by_reference q.path) x) = agree (asked_by_reference q.path) w (name.ways q entered refers is_x) (λ i. not_hidden (hidden_cases (named_in p) x q.node q.path i)) in
@@ -413,33 +342,10 @@ module _ (p : Tree) (h : first_fault p ≡ None) (common : is_common p ≡ true)
           | inl a ↦ agrees_so (looked_up p h common typed numbered x no_arguments name.simply alone_members w q.chain) (resolve (named_in p) (round_place p q) (asked_by_reference q.path) x) tied_is a
           | inr b ↦ elim b [
             | inl m ↦ absurd (never_missed m)
-            | inr f ↦ absurd (never_free (tied_is ∙ f.free))
+            | inr f ↦ absurd (never_free p h typed x untangled q referred is_x (tied_is ∙ f.free))
           ]
         ] in
         subst (λ y. is_tied_as_resolved (analysis_of p) q.node.node_id (resolve (named_in p) (round_place p q) (asked_by_reference q.path) y) ≡ true) (sym is_x) there
 
-  -- ---- all references
-
-  abbrev parts : NameUse → Bool
-  parts u = bytes_eq u.name x && not (is_use_tied (analysis_of p) (named_in p) u)
-
-  at_place : (q : Place) → Among (entering q) (steps p) → is kind.IdentifierReference q.node ≡ true → parts (name_use p.source_type q) ≡ false
-  at_place q a k = elim (name_tells q.node.text x) [
-    | inl n ↦ ap (λ b. bytes_eq q.node.text x && not b) (use_agrees q a k n.1) ∙ and_false (bytes_eq q.node.text x)
-    | inr n ↦ ap (λ b. b && not (is_use_tied (analysis_of p) (named_in p) (name_use p.source_type q))) n.0
-  ]
-
-  none_of : (ss : List Step) → ((q : Place) → Among (entering q) ss → Among (entering q) (steps p)) → filter parts (filter_map (used_at p.source_type) ss) ≡ []
-  none_of [] f = refl
-  none_of (entering q ∷ ss) f = go (is kind.IdentifierReference q.node) refl (none_of ss (λ r i. f r (inr i)))
-    where
-      go : (t : Bool) → is kind.IdentifierReference q.node ≡ t → filter parts (filter_map (used_at p.source_type) ss) ≡ [] → filter parts (filter_map (used_at p.source_type) (entering q ∷ ss)) ≡ []
-      go true k later = rw k (rw (at_place q (f q (inl refl)) k) later)
-      go false k later = rw k later
-  none_of (opening q o ∷ ss) f = none_of ss (λ r i. f r (inr i))
-  none_of (header_ending q o ∷ ss) f = none_of ss (λ r i. f r (inr i))
-  none_of (closing q o ∷ ss) f = none_of ss (λ r i. f r (inr i))
-  none_of (leaving q ∷ ss) f = none_of ss (λ r i. f r (inr i))
-
   pub nothing_parts : parting_uses p x ≡ []
-  nothing_parts = ap (map (λ u. u.node)) (none_of (steps p) (λ q a. a))
+  nothing_parts = none_part p x use_agrees

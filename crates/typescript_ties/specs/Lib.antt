@@ -8,3 +8,4 @@ pub mod DeclaredNames
 pub mod SeenTogether
 pub mod SimpleNames
 pub mod TriedNames
+pub mod SingleNames

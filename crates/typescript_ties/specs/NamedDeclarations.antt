@@ -86,8 +86,8 @@ variables_named s x (declaration ∷ path) =
 -- what makes the code in it strict: a class, or the directive
 abbrev pub is_strict_by : Node → Bool
 is_strict_by x =
-    is kind.Class x || (is kind.Program x && has_use_strict x)
-    || (holds_kind (kind.Function ∷ kind.ArrowFunctionExpression ∷ kind.TSNamespaceDeclaration ∷ []) x.kind && holds has_use_strict (child_of role.Body x))
+    is kind.Class x || (holds_kind (kind.Program ∷ kind.TSModuleBlock ∷ []) x.kind && has_use_strict x)
+    || (holds_kind (kind.Function ∷ kind.ArrowFunctionExpression ∷ []) x.kind && holds has_use_strict (child_of role.Body x))
 
 abbrev pub is_strict_inside : SourceType → List Node → Bool
 is_strict_inside s path = is_module s || list_any is_strict_by path

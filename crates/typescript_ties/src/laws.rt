@@ -8,6 +8,7 @@ ghost use Rattle.tangle_model.specs.Tangled.{tangle_reasons};
 ghost use Rattle.typescript_ties.specs.DeclaredNames.{NamesAreDeclared, IsUntiedEverywhere, MeansNothing, is_declared_in};
 ghost use Rattle.typescript_ties.specs.ResolvedTies.{parting_uses};
 ghost use Rattle.typescript_ties.specs.SimpleNames.{is_common, IsSimpleName};
+ghost use Rattle.typescript_ties.specs.SingleNames.{IsSingleName, is_single_name};
 ghost use Rattle.typescript_ties.specs.TriedNames.{is_simple_name};
 ghost use Rattle.typescript_ties.specs.SeenTogether.{IsPlainlyDeclared, AreTiedTogether};
 
@@ -43,4 +44,16 @@ pub fn untangled_names_are_tied_as_they_mean()
     ensures tried { (p : Tree) (name : Name) → first_fault p ≡ None → is_common p ≡ true
         → is_typescript p.source_type ≡ true → IsNumbered p.root → tangle_reasons p name ≡ []
         → is_simple_name p name ≡ true → parting_uses p name ≡ [] }
+{}
+
+/// Tables and language agree on each reference of a name that isn't tangled and has one symbol, be it declared by `infer`, by a catch
+/// clause or by a function in a block of sloppy code, where each reference of it means something. Whether a name is such a one can be
+/// tried.
+pub fn single_names_are_tied_as_they_mean()
+    ensures agree { (p : Tree) (name : Name) → first_fault p ≡ None → is_common p ≡ true
+        → is_typescript p.source_type ≡ true → IsNumbered p.root → tangle_reasons p name ≡ []
+        → IsSingleName p name → parting_uses p name ≡ [] }
+    ensures tried { (p : Tree) (name : Name) → first_fault p ≡ None → is_common p ≡ true
+        → is_typescript p.source_type ≡ true → IsNumbered p.root → tangle_reasons p name ≡ []
+        → is_single_name p name ≡ true → parting_uses p name ≡ [] }
 {}
