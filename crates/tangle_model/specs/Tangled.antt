@@ -103,9 +103,9 @@ is_noted_as w ms name = any_mention (is_mention_of w) ms name
 abbrev pub any_symbol : (Symbol → Bool) → List Symbol → Name → Bool
 any_symbol test ys name = list_any (λ y. test y && bytes_eq name y.name) ys
 
--- a function expression has it as its own name, and a type has it: a type of the function takes the place of the own name in the tables, so that a value of the name is sought outside; in TypeScript both stand beside each other
-abbrev pub is_typed_own_name : List Symbol → Name → Bool
-is_typed_own_name ys name = any_symbol (is_flagged symbol.FunctionExpression.bits) ys name && any_symbol (is_flagged symbol.TypeFlag.bits) ys name
+-- in TypeScript, a function expression has it as its own name, and a type has it: a type of the function takes the place of the own name in the tables, so that a value of the name is sought outside; in the language both stand beside each other
+abbrev pub is_typed_own_name : SourceType → List Symbol → Name → Bool
+is_typed_own_name s ys name = is_typescript s && any_symbol (is_flagged symbol.FunctionExpression.bits) ys name && any_symbol (is_flagged symbol.TypeFlag.bits) ys name
 
 -- whether the reason holds of the name, where this is noted in the program and these are its tables
 abbrev pub holds_in : SourceType → List Mention → Tables → Reason → Name → Bool
@@ -123,7 +123,7 @@ holds_in s ms t reason.IndexParameter name = is_typescript s && any_mention (is_
 holds_in s ms t reason.SloppyFunction name = is_typescript s && is_noted_as what.InnerFunction ms name && is_shared t.symbols name
 holds_in s ms t reason.ExportedType name = is_typescript s && is_noted_as what.ExportedType ms name && is_shared t.symbols name
 holds_in s ms t reason.TypedVariable name = is_typescript s && is_noted_as what.PassingVariable ms name && any_symbol is_typed_variable t.symbols name
-holds_in s ms t reason.TypedFunctionName name = is_typescript s && is_typed_own_name t.symbols name
+holds_in s ms t reason.TypedFunctionName name = is_typed_own_name s t.symbols name
 
 abbrev pub all_reasons : List Reason
 all_reasons =
