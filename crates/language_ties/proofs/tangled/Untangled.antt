@@ -72,16 +72,16 @@ is_with _ = false
 
 never_kept : (test : Reason → Bool) (rs : List Reason) → list_any is_with rs ≡ false → filter test rs ≡ reason.With ∷ [] → ⊥
 never_kept test [] none h = absurd cc
-never_kept test (r ∷ rs) none h = go (is_with r) refl none (test r) h
+never_kept test (r ∷ rs) none h = go (is_with r) refl none (test r) h (never_kept test rs)
   where
     first_or : List Reason → Reason
     first_or [] = r
     first_or (x ∷ xs) = x
 
-    go : (w : Bool) → is_with r ≡ w → (w || list_any is_with rs) ≡ false → (b : Bool) → cond b (r ∷ filter test rs) (filter test rs) ≡ reason.With ∷ [] → ⊥
-    go true e n b i = never n
-    go false e n true i = never (sym (ap is_with (ap first_or i)) ∙ e)
-    go false e n false i = never_kept test rs n i
+    go : (w : Bool) → is_with r ≡ w → (w || list_any is_with rs) ≡ false → (b : Bool) → cond b (r ∷ filter test rs) (filter test rs) ≡ reason.With ∷ [] → (list_any is_with rs ≡ false → filter test rs ≡ reason.With ∷ [] → ⊥) → ⊥
+    go true e n b i later = never n
+    go false e n true i later = never (sym (ap is_with (ap first_or i)) ∙ e)
+    go false e n false i later = later n i
 
 one_told : (b c a w : Bool) (rs : List Reason) → (rs ≡ reason.With ∷ [] → ⊥) → told_if b reason.BlockFunction (told_if c reason.CatchVariable (told_if a reason.Arguments (told_if w reason.With rs))) ≡ reason.With ∷ [] → told_if b reason.BlockFunction (told_if c reason.CatchVariable (told_if a reason.Arguments rs)) ≡ []
 one_told true c a w rs n h = absurd cc
