@@ -6,6 +6,8 @@ pub mod UndeclaredFree
 pub mod PlainFold
 pub mod LikeFlags
 pub mod MadeOnce
+pub mod ClearNames
+pub mod HeldNames
 pub mod ClearFold
 pub mod ClearTies
 pub mod TiedTogether
