@@ -75,7 +75,7 @@ variable_adds_none d w f covers m a =
 
 -- ---- look-ups
 
-fit_alike : (x : Name) (w f g : ℕ) → FlagsAlike f g → fits x w f ≡ fits x w g
+pub fit_alike : (x : Name) (w f g : ℕ) → FlagsAlike f g → fits x w f ≡ fits x w g
 fit_alike x w f g h = λ i.
     ((((meets w way.Value.bits && h symbol.ByValue.bits refl i) || (meets w way.TypeFlag.bits && h symbol.ByType.bits refl i) || (meets w way.ValueAsType.bits && h symbol.ByValueAsType.bits refl i))
     && (not (asks_for_namespace w) || h symbol.AsNamespace.bits refl i)) && not (is_arguments x w && h symbol.FunctionExpression.bits refl i))

@@ -42,7 +42,7 @@ use Rattle.binding_laws.proofs.ScopeOpeners.{openers, IsOpened, AllOpened, IsPla
 use Rattle.binding_laws.proofs.SmallLaws.{never, some_is}
 use Rattle.typescript_ties.proofs.ClearNames.{Untouched, Free, AllClear, none_some}
 use Rattle.typescript_ties.proofs.ClearFold.{ClearState}
-use Rattle.typescript_ties.proofs.ClearTies.{clear_at_last, AllFree}
+use Rattle.typescript_ties.proofs.ClearTies.{AllSeen, outermost, past, clear_at_last}
 use Rattle.typescript_ties.proofs.LikeFlags.{IsVariable}
 use Rattle.typescript_ties.proofs.VarRoutes.{StandsWell, StandingStep, all_stand_well}
 use Rattle.typescript_ties.proofs.SimpleOnes.{sort_is_simple}
@@ -242,9 +242,9 @@ module _ (p : Tree) (h : first_fault p ≡ None) (common : is_common p ≡ true)
   pub all_free : (c : ℕ) → Free all x c
   all_free c d a e = ((λ q. lasts d a e), (λ q. none_some c (sym (lasts d a e) ∙ q)))
 
-  pub free_chain : (chain : List OpenScope) → AllFree p h numbered x is_clear chain
-  free_chain [] = tt
-  free_chain (s ∷ ss) = (inl (all_free s.number), free_chain ss)
+  pub all_seen : (chain : List OpenScope) → AllSeen all x chain
+  all_seen [] = outermost
+  all_seen (s ∷ ss) = past s ss (inl (all_free s.number)) (all_seen ss)
 
   abbrev final : State
   final = run start (events (steps p))

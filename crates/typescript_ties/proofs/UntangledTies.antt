@@ -67,7 +67,7 @@ use Rattle.typescript_ties.proofs.ClearTies.{clearly_tied}
 use Rattle.typescript_ties.proofs.LikeFlags.{FlagsAlike, SeenAlike}
 use Rattle.binding_laws.proofs.ReferredNodes.{IsReferred, is_referred}
 use Rattle.binding_laws.proofs.SmallLaws.{never}
-use Rattle.typescript_ties.proofs.SimpleDeclarations.{is_clear, all_free, free_chain, clear_state, bound_at_target}
+use Rattle.typescript_ties.proofs.SimpleDeclarations.{is_clear, all_free, all_seen, clear_state, bound_at_target}
 
 -- ---- reasons
 
@@ -292,7 +292,7 @@ module _ (p : Tree) (h : first_fault p ≡ None) (common : is_common p ≡ true)
     w = way_or_read q.cursor
 
     tied_is : referred.entry.symbol_id ≡ looked_up p h common typed numbered x no_arguments name.simply alone_members w q.chain
-    tied_is = clearly_tied p h numbered x (is_clear p h common typed numbered x name.simply) referred.number (reference_at q) referred.entry referred.reference referred.row is_x (free_chain p h common typed numbered x name.simply q.chain)
+    tied_is = clearly_tied p h numbered x (is_clear p h common typed numbered x name.simply) referred.number (reference_at q) referred.entry referred.reference referred.row is_x (rw no_arguments refl) (all_seen p h common typed numbered x name.simply q.chain)
 
     -- it isn't free
     never_free : referred.entry.symbol_id ≡ None → ⊥
