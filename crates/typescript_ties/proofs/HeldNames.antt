@@ -1,5 +1,5 @@
 -- What a catch clause declares is bound by the clause, or by its body, which takes it over.
-use Rattle.std.proofs.Common.{◌≡◌, ℕ, List, Option, Some, None, inl, inr, ◌⊎◌, refl, sym, ap, subst, ◌∙◌, filter}
+use Rattle.std.proofs.Common.{◌≡◌, ℕ, Option, Some, None, inl, inr, ◌⊎◌, refl, sym, ap, subst, ◌∙◌, filter}
 use Rattle.semantic_syntax.specs.Tables.{Name}
 use Rattle.semantic_model.specs.Binding.{get}
 use Rattle.semantic_model.specs.Fold.{State, Made, or_else, flags_of}
