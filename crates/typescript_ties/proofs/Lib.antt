@@ -10,6 +10,7 @@ pub mod ClearNames
 pub mod HeldNames
 pub mod ClearFold
 pub mod ClearTies
+pub mod ClauseBodies
 pub mod TiedTogether
 pub mod ChildPlaces
 pub mod Unheaded
