@@ -1,9 +1,9 @@
--- What is declared in a catch clause, the clause's block takes over.
+-- What is declared in a catch clause, the clause's block takes over, and it takes over that clause alone.
 use Rattle.std.proofs.Common.{◌≡◌, ℕ, ◌==◌, List, [], ◌∷◌, ◌++◌, Option, Some, None, Bool, true, false, ◌||◌, cond, inl, inr, refl, sym, ap, subst, ◌∙◌}
 use Rattle.std.specs.Prelude.{slice_get}
 use Rattle.std.proofs.lemmas.Bool.Decides.{eqb_tells}
 use Rattle.semantic_tree.specs.Faults.{first_fault}
-use Rattle.semantic_tree.specs.Tree.{Tree}
+use Rattle.semantic_tree.specs.Tree.{Tree, IsNumbered}
 use Rattle.semantic_model.specs.Binder.{declared_on_entering, declared_on_opening}
 use Rattle.semantic_model.specs.Declaration.{Declaration}
 use Rattle.semantic_model.specs.Entries.{Among}
@@ -17,8 +17,13 @@ use Rattle.semantic_model.proofs.fold.Orders.{HasForm, table_of, root_body, step
 use Rattle.semantic_model.proofs.form.Shape.{has_form}
 use Rattle.program_laws.proofs.DeclaredNodes.{among_map, among_flat}
 use Rattle.semantic_model.proofs.lists.Members.{among_cases}
+use Rattle.binding_laws.proofs.EnteredOnce.{entered_once}
+use Rattle.binding_laws.proofs.ListLaws.{each_at}
+use Rattle.binding_laws.proofs.ScopeOpeners.{openers, IsOpened}
 use Rattle.binding_laws.proofs.SmallLaws.{some_is}
 use Rattle.typescript_ties.proofs.ClearTies.{all_known}
+use Rattle.typescript_ties.proofs.OwnScopes.{OwnStep, own_program}
+use Rattle.typescript_ties.proofs.UndeclaredFree.{OfOpened, IsEnteredIn, all_entered, opened_program}
 
 -- the clause's scope is taken over in the events
 taken_among : (c : ℕ) (es : List Event) → takes c es ≡ true → (b : ℕ) × Among (takes_over c b) es
@@ -53,6 +58,25 @@ pub record IsTakenOver (p : Tree) (c b : ℕ) : Type 0 where
   pub is_body : is_catch_body place ≡ true
   pub clause : (innermost place.chain).number ≡ c
   pub number : scope.number ≡ b
+
+-- the block is entered, and opens the scope
+pub record IsOpenedBy (p : Tree) (c b : ℕ) (t : IsTakenOver p c b) : Type 0 where
+  pub entered : Among (entering t.place) (steps p)
+  pub opened : slice_get (openers (steps p)) b ≡ Some t.place.node.node_id
+
+pub opened_by : (p : Tree) (c b : ℕ) (t : IsTakenOver p c b) → IsOpenedBy p c b t
+opened_by p c b t =
+    let (entered, (n, is_own)) = each_at (OfOpened (IsEnteredIn (steps p))) (steps p) (opening t.place t.scope) (opened_program (IsEnteredIn (steps p)) p (all_entered (steps p) (steps p) (λ st a. a))) t.among in
+    let listed : IsOpened (openers (steps p)) t.scope = each_at (OwnStep (steps p) (openers (steps p))) (steps p) (opening t.place t.scope) (own_program p) t.among in
+    record { entered = entered; opened = ap (slice_get (openers (steps p))) (sym t.number) ∙ listed ∙ ap (λ (z : OpenScope). Some z.opener) is_own }
+
+-- it takes over one clause alone
+pub one_clause : (p : Tree) → IsNumbered p.root → (c d b : ℕ) → IsTakenOver p c b → IsTakenOver p d b → c ≡ d
+one_clause p numbered c d b t u =
+    let v : IsOpenedBy p c b t = opened_by p c b t in
+    let w : IsOpenedBy p d b u = opened_by p d b u in
+    let same : t.place ≡ u.place = entered_once p numbered t.place u.place v.entered w.entered (some_is t.place.node.node_id u.place.node.node_id (sym v.opened ∙ w.opened)) in
+    sym t.clause ∙ ap (λ (z : Place). (innermost z.chain).number) same ∙ u.clause
 
 no_declares : (ds new : List Declaration) (c b : ℕ) → Among (takes_over c b) (declares_all ds new) → ⊥
 no_declares ds new c b a = let (d, i, e) = among_map (λ z. declares (placed ds z)) new (takes_over c b) a in absurd cc
