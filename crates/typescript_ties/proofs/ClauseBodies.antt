@@ -1,11 +1,11 @@
 -- What is declared in a catch clause, the clause's block takes over, and it takes over that clause alone.
-use Rattle.std.proofs.Common.{◌≡◌, ℕ, ◌==◌, List, [], ◌∷◌, ◌++◌, Option, Some, None, Bool, true, false, ◌||◌, cond, inl, inr, refl, sym, ap, subst, ◌∙◌}
+use Rattle.std.proofs.Common.{◌≡◌, ℕ, List, [], ◌∷◌, Option, Some, None, Bool, true, false, ◌||◌, cond, inl, inr, ◌⊎◌, refl, sym, ap, subst, ◌∙◌}
 use Rattle.std.specs.Prelude.{slice_get}
 use Rattle.std.proofs.lemmas.Bool.Decides.{eqb_tells}
 use Rattle.semantic_tree.specs.Faults.{first_fault}
 use Rattle.semantic_tree.specs.Tree.{Tree, IsNumbered}
 use Rattle.semantic_model.specs.Binder.{declared_on_entering, declared_on_opening}
-use Rattle.semantic_model.specs.Declaration.{Declaration}
+use Rattle.semantic_model.specs.Declaration.{Declaration, plain, caught}
 use Rattle.semantic_model.specs.Entries.{Among}
 use Rattle.semantic_model.specs.Event.{Event, declares, takes_over, ends_header, is_catch_body, taken_over, declares_all, events_of, events, declarations, written_declarations, placed}
 use Rattle.semantic_model.specs.Place.{Place, OpenScope, innermost}
@@ -17,10 +17,12 @@ use Rattle.semantic_model.proofs.fold.Orders.{HasForm, table_of, root_body, step
 use Rattle.semantic_model.proofs.form.Shape.{has_form}
 use Rattle.program_laws.proofs.DeclaredNodes.{among_map, among_flat}
 use Rattle.semantic_model.proofs.lists.Members.{among_cases}
+use Rattle.binding_laws.specs.SeenDeclarations.{is_own_name}
 use Rattle.binding_laws.proofs.EnteredOnce.{entered_once}
 use Rattle.binding_laws.proofs.ListLaws.{each_at}
 use Rattle.binding_laws.proofs.ScopeOpeners.{openers, IsOpened}
 use Rattle.binding_laws.proofs.SmallLaws.{some_is}
+use Rattle.typescript_ties.proofs.ClearNames.{IsCaughtAlone}
 use Rattle.typescript_ties.proofs.ClearTies.{all_known}
 use Rattle.typescript_ties.proofs.OwnScopes.{OwnStep, own_program}
 use Rattle.typescript_ties.proofs.UndeclaredFree.{OfOpened, IsEnteredIn, all_entered, opened_program}
@@ -121,3 +123,17 @@ module _ (p : Tree) (h : first_fault p ≡ None) (d : Declaration) (there : Amon
   taken_by_block =
       let (st, i, a) = among_flat (events_of (written_declarations (steps p))) (steps p) (takes_over d.route.target.number taken.0) taken.1 in
       subst (IsTakenOver p d.route.target.number) same_body (taken_step p (written_declarations (steps p)) d.route.target.number taken.0 st i a)
+
+-- so it is caught alone, if neither the clause nor the block has the name by another declaration
+pub is_caught_alone : (p : Tree) (h : first_fault p ≡ None) → IsNumbered p.root → (d : Declaration) → Among d (declarations (events (steps p))) → (b : ℕ) → d.route.target.body ≡ Some b → (d.how ≡ plain) ⊎ (d.how ≡ caught) → is_own_name d ≡ false
+    → ((e : Declaration) → Among e (declarations (events (steps p))) → e.naming.name ≡ d.naming.name → e.route.target.number ≡ d.route.target.number → e.naming.identifier ≡ d.naming.identifier)
+    → ((e : Declaration) → Among e (declarations (events (steps p))) → e.naming.name ≡ d.naming.name → e.route.target.number ≡ b → ⊥) → IsCaughtAlone (table_of p) (declarations (events (steps p))) d b
+is_caught_alone p h numbered d a b body how other alone unbodied = record {
+  body = body;
+  how = how;
+  other = other;
+  ends = body_ends p h d a b body;
+  alone = alone;
+  unbodied = unbodied;
+  sole = λ e i n q. one_clause p numbered e.route.target.number d.route.target.number b (taken_by_block p h e i b q) (taken_by_block p h d a b body);
+}
