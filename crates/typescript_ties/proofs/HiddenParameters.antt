@@ -55,7 +55,7 @@ use Rattle.typescript_ties.proofs.MergedBlocks.{opened_node}
 use Rattle.typescript_ties.proofs.PastParameters.{is_parameter_named, is_past_parameter, AsksPastNoParameter}
 use Rattle.binding_laws.proofs.ScopeOpeners.{root_opener}
 use Rattle.binding_laws.proofs.SmallLaws.{never, implied}
-use Rattle.typescript_ties.proofs.SimpleDeclarations.{of_language, made_so, clear_state}
+use Rattle.typescript_ties.proofs.SimpleDeclarations.{of_language, made_so, all_free, clear_state, bound_at_target}
 
 -- ---- where such a reference stands
 
@@ -114,7 +114,7 @@ module _ (p : Tree) (h : first_fault p ≡ None) (common : is_common p ≡ true)
       let (y, made) = made_so p h common typed numbered x simply d both.among in
       let c : ℕ = d.route.target.number in
       let named : d.naming.name ≡ x = ap (λ t. t.name) both.told ∙ e in
-      let bound : get final.bindings c x ≡ Some y = (clear_state p h common typed numbered x simply).same (record { declaration = d; symbol = y }) made named in
+      let bound : get final.bindings c x ≡ Some y = bound_at_target p h common typed numbered x simply (record { declaration = d; symbol = y }) made named in
       let w : IsSymbolOf final.symbols c x y = (kept_program p (has_form p h)).owned (record { scope = c; name = x; symbol = y }) (get_among final.bindings c x y bound) in
       let flag : meets d.naming.flags symbol.FunctionScopedVariable.bits ≡ true = implied (same_sort n.sort sort.Parameter) (meets d.naming.flags symbol.FunctionScopedVariable.bits) both.pair.flags.parameter (ap (λ t. same_sort t sort.Parameter) is_parameter) in
       let variable : meets w.symbol.flags.bits symbol.FunctionScopedVariable.bits ≡ true = ap (λ o. meets (flags_or_none o) symbol.FunctionScopedVariable.bits) (sym w.is_there) ∙ flag_of d y made named bound flag in
@@ -144,14 +144,14 @@ module _ (p : Tree) (h : first_fault p ≡ None) (common : is_common p ≡ true)
               let (i, j) = filter_among (is_in_scope c x) (made_of p) z b in
               let number : z.declaration.route.target.number ≡ c = elim (eqb_tells z.declaration.route.target.number c) [ inl k ↦ k.1 | inr k ↦ absurd (never (sym (and_first (z.declaration.route.target.number == c) (bytes_eq z.declaration.naming.name x) j) ∙ k.0)) ] in
               let z_named : z.declaration.naming.name ≡ x = elim (name_tells z.declaration.naming.name x) [ inl k ↦ k.1 | inr k ↦ absurd (never (sym (and_second (z.declaration.route.target.number == c) (bytes_eq z.declaration.naming.name x) j) ∙ k.0)) ] in
-              some_is z.symbol y (sym ((clear_state p h common typed numbered x simply).same z i z_named) ∙ ap (λ k. get final.bindings k x) number ∙ bound)
+              some_is z.symbol y (sym (bound_at_target p h common typed numbered x simply z i z_named) ∙ ap (λ k. get final.bindings k x) number ∙ bound)
 
           by : (l : List Made) → filter (is_in_scope c x) (made_of p) ≡ l → meets (flags_of final y) symbol.FunctionScopedVariable.bits ≡ true
           by [] e = absurd (subst (Among m) e own)
           by (z ∷ zs) e =
               let together : AreBoundAs (z ∷ zs) y = bound_as_one z zs y (λ v b. all_one v (subst (Among v) (sym e) b)) in
               let alike : SeenAlike (Some (record { symbol = y; flags = flags_of final y })) (Some (record { symbol = y; flags = together.flags })) =
-              subst (λ o. SeenAlike (seen_as final o) (Some (record { symbol = y; flags = together.flags }))) bound (subst (SeenAlike (seen_as final (get final.bindings c x))) (ap bound_by_all e ∙ together.bound) ((clear_state p h common typed numbered x simply).counted c)) in
+              subst (λ o. SeenAlike (seen_as final o) (Some (record { symbol = y; flags = together.flags }))) bound (subst (SeenAlike (seen_as final (get final.bindings c x))) (ap bound_by_all e ∙ together.bound) ((clear_state p h common typed numbered x simply).counted c (all_free p h common typed numbered x simply c))) in
               alike.1 symbol.FunctionScopedVariable.bits refl ∙ together.any symbol.FunctionScopedVariable.bits ∙ any_there (λ v. meets v.declaration.naming.flags symbol.FunctionScopedVariable.bits) (z ∷ zs) m (subst (Among m) e own) flag
 
   -- a reference in type parameters is noted

@@ -6,8 +6,11 @@ pub mod UndeclaredFree
 pub mod PlainFold
 pub mod LikeFlags
 pub mod MadeOnce
+pub mod ClearNames
+pub mod HeldNames
 pub mod ClearFold
 pub mod ClearTies
+pub mod ClauseBodies
 pub mod TiedTogether
 pub mod ChildPlaces
 pub mod Unheaded

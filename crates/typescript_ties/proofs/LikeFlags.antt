@@ -1,9 +1,9 @@
 -- Flags that are alike but for whether a declaration is ambient: no look-up tells them apart.
-use Rattle.std.proofs.Common.{◌≡◌, ℕ, ◌==◌, List, [], ◌∷◌, Option, Some, None, Bool, true, false, ◌&&◌, ◌||◌, not, cond, refl, sym, ap, subst, ◌∙◌, arith}
+use Rattle.std.proofs.Common.{◌≡◌, ℕ, ◌==◌, Option, Some, None, Bool, true, false, ◌&&◌, ◌||◌, not, cond, refl, sym, ap, subst, ◌∙◌, arith}
 use Rattle.std.specs.Int.RustNames.{bit_and}
 use Rattle.std.proofs.lemmas.Bool.{eq-eqb}
 use Rattle.std.proofs.lemmas.Nat.{and_comm, and_le_r}
-use Rattle.semantic_syntax.specs.Lookup.{Seen, Asked, Lookup, tied, barred, is_arguments, fits, ends_after, tied_by, or_lookup, lookup}
+use Rattle.semantic_syntax.specs.Lookup.{Seen, is_arguments, fits}
 use Rattle.semantic_syntax.specs.Sets.{meets, union}
 use Rattle.semantic_syntax.specs.Tables.{Name}
 use Rattle.semantic_syntax.specs.Usable.{asks_for_namespace}
@@ -12,7 +12,6 @@ use Rattle.semantic_syntax.specs.declared.symbol_flags.TheConstants.SymbolFlags 
 use Rattle.semantic_model.specs.Binder.{ambient_if}
 use Rattle.semantic_model.specs.Declaration.{Declaration}
 use Rattle.semantic_model.specs.Fold.{Made}
-use Rattle.semantic_model.specs.Tie.{symbol_by}
 use Rattle.binding_laws.specs.SeenDeclarations.{seen_alone, with_declaration}
 use Rattle.typescript_ties.proofs.FitsTogether.{meets_union}
 
@@ -75,40 +74,7 @@ variable_adds_none d w f covers m a =
 
 -- ---- look-ups
 
-fit_alike : (x : Name) (w f g : ℕ) → FlagsAlike f g → fits x w f ≡ fits x w g
+pub fit_alike : (x : Name) (w f g : ℕ) → FlagsAlike f g → fits x w f ≡ fits x w g
 fit_alike x w f g h = λ i.
     ((((meets w way.Value.bits && h symbol.ByValue.bits refl i) || (meets w way.TypeFlag.bits && h symbol.ByType.bits refl i) || (meets w way.ValueAsType.bits && h symbol.ByValueAsType.bits refl i))
     && (not (asks_for_namespace w) || h symbol.AsNamespace.bits refl i)) && not (is_arguments x w && h symbol.FunctionExpression.bits refl i))
-
--- asked in the same scopes, with answers that are alike
-abbrev pub AllAlike : List Asked → List Asked → Type 0
-AllAlike [] [] = Unit {0}
-AllAlike (a ∷ ls) (b ∷ ms) = (a.scope ≡ b.scope) × ((a.flags ≡ b.flags) × (SeenAlike a.bound b.bound × AllAlike ls ms))
-AllAlike ls ms = ⊥
-
-one_alike : (x : Name) (w c flags : ℕ) (o p : Option Seen) (l m : Lookup) → SeenAlike o p → symbol_by l ≡ symbol_by m
-    → symbol_by (or_lookup (tied_by x w c o) (cond (ends_after x w flags) (barred c) l)) ≡ symbol_by (or_lookup (tied_by x w c p) (cond (ends_after x w flags) (barred c) m))
-one_alike x w c flags None None l m h e = by (ends_after x w flags)
-  where
-    by : (t : Bool) → symbol_by (cond t (barred c) l) ≡ symbol_by (cond t (barred c) m)
-    by true = refl
-    by false = e
-one_alike x w c flags None (Some b) l m h e = absurd h
-one_alike x w c flags (Some a) None l m h e = absurd h
-one_alike x w c flags (Some a) (Some b) l m h e = by (fits x w a.flags) (fits x w b.flags) (fit_alike x w a.flags b.flags h.1) (ends_after x w flags)
-  where
-    by : (t u : Bool) → t ≡ u → (z : Bool) → symbol_by (or_lookup (cond t (Some (tied c a.symbol a.flags)) None) (cond z (barred c) l)) ≡ symbol_by (or_lookup (cond u (Some (tied c b.symbol b.flags)) None) (cond z (barred c) m))
-    by true true i z = ap Some h.0
-    by true false i z = absurd cc
-    by false true i z = absurd cc
-    by false false i true = refl
-    by false false i false = e
-
-pub alike_looked_up : (x : Name) (w : ℕ) (ls ms : List Asked) → AllAlike ls ms → symbol_by (lookup x w ls) ≡ symbol_by (lookup x w ms)
-alike_looked_up x w [] [] h = refl
-alike_looked_up x w [] (b ∷ ms) h = absurd h
-alike_looked_up x w (a ∷ ls) [] h = absurd h
-alike_looked_up x w (a ∷ ls) (b ∷ ms) h =
-    subst (λ c. symbol_by (lookup x w (a ∷ ls)) ≡ symbol_by (or_lookup (tied_by x w c b.bound) (cond (ends_after x w b.flags) (barred c) (lookup x w ms)))) h.0
-    (subst (λ f. symbol_by (lookup x w (a ∷ ls)) ≡ symbol_by (or_lookup (tied_by x w a.scope b.bound) (cond (ends_after x w f) (barred a.scope) (lookup x w ms)))) h.1.0
-    (one_alike x w a.scope a.flags a.bound b.bound (lookup x w ls) (lookup x w ms) h.1.1.0 (alike_looked_up x w ls ms h.1.1.1)))

@@ -46,7 +46,7 @@ use Rattle.typescript_ties.proofs.MergedBlocks.{block_of, merged_opener, opened_
 use Rattle.typescript_ties.proofs.Pairs.{container_kind_is}
 use Rattle.typescript_ties.proofs.SharedMembers.{MemberSort, unshared, of_namespace, of_module, of_globals, of_enum, member_sort}
 use Rattle.typescript_ties.proofs.SimpleOnes.{is_not_apart}
-use Rattle.typescript_ties.proofs.SimpleDeclarations.{of_language, made_so, clear_state}
+use Rattle.typescript_ties.proofs.SimpleDeclarations.{of_language, made_so, bound_at_target}
 
 seen_is : (a b : Seen) → Some a ≡ Some b → a ≡ b
 seen_is a b e = cc
@@ -89,7 +89,7 @@ module _ (p : Tree) (h : first_fault p ≡ None) (common : is_common p ≡ true)
       let (y, made) = made_so p h common typed numbered x simply d both.among in
       let c : ℕ = d.route.target.number in
       let named : d.naming.name ≡ x = ap (λ t. t.name) both.told ∙ e in
-      let w : IsSymbolOf final.symbols c x y = (kept_program p (has_form p h)).owned (record { scope = c; name = x; symbol = y }) (get_among final.bindings c x y ((clear_state p h common typed numbered x simply).same (record { declaration = d; symbol = y }) made named)) in
+      let w : IsSymbolOf final.symbols c x y = (kept_program p (has_form p h)).owned (record { scope = c; name = x; symbol = y }) (get_among final.bindings c x y (bound_at_target p h common typed numbered x simply (record { declaration = d; symbol = y }) made named)) in
       record {
         symbol = w.symbol;
         number = y;

@@ -6,7 +6,7 @@ use Rattle.semantic_kinds.specs.declared.kind.AstType.TheVariants as kind
 use Rattle.semantic_kinds.specs.declared.role.Role.TheVariants as role
 use Rattle.semantic_kinds.specs.declared.mark.Mark.TheVariants as mark
 use Rattle.semantic_tree.specs.Tree.{Tree}
-use Rattle.tangle_model.proofs.ProgramTrees.{marked, node, program, binding, block, declared, variable, statement, in_parentheses, function, function_body, named_expression, mention, namespace, number, parameters, reference}
+use Rattle.tangle_model.proofs.ProgramTrees.{marked, node, program, binding, block, catch_clause, declared, variable, statement, in_parentheses, function, function_body, named_expression, mention, namespace, number, parameters, reference}
 
 -- `export {}; namespace N { export type T = number } let x: N.T;`
 abbrev pub qualified : Tree
@@ -560,6 +560,38 @@ decorated_parameters =
     ∷ function_body (mention (codes "a") ∷ [])
     ∷ [])
     ∷ [])
+    ∷ [])
+    ∷ [])
+    ∷ [])
+
+-- `export {}; let e; try {} catch (e) { e; } e;`
+abbrev pub caught_names : Tree
+caught_names =
+    program goal.Module lang.Ts
+    (node role.Body kind.ExportNamedDeclaration [] []
+    ∷ declared role.Body (codes "let") (binding role.Id (codes "e") ∷ [])
+    ∷ node role.Body kind.TryStatement []
+    (block role.Block []
+    ∷ catch_clause role.Handler (binding role.Pattern (codes "e")) (mention (codes "e") ∷ [])
+    ∷ [])
+    ∷ mention (codes "e")
+    ∷ [])
+
+-- `export {}; try {} catch (e) { type e = 1; let b: e; e; }`
+abbrev pub caught_types : Tree
+caught_types =
+    program goal.Module lang.Ts
+    (node role.Body kind.ExportNamedDeclaration [] []
+    ∷ node role.Body kind.TryStatement []
+    (block role.Block []
+    ∷ catch_clause role.Handler (binding role.Pattern (codes "e"))
+    (node role.Body kind.TSTypeAliasDeclaration []
+    (binding role.Id (codes "e") ∷ node role.ValueType kind.TSLiteralType [] (number role.Literal (codes "1") ∷ []) ∷ [])
+    ∷ declared role.Body (codes "let")
+    (binding role.Id (codes "b")
+    ∷ node role.Annotation kind.TSTypeAnnotation [] (node role.Element kind.TSTypeReference [] (reference role.Name (codes "e") ∷ []) ∷ [])
+    ∷ [])
+    ∷ mention (codes "e")
     ∷ [])
     ∷ [])
     ∷ [])

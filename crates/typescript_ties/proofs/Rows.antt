@@ -9,7 +9,7 @@ use Rattle.typescript_ties.specs.Resolved.{Resolved, nowhere, declared_in, Resol
 use Rattle.typescript_ties.specs.ResolvedTies.{parting_uses}
 use Rattle.typescript_ties.specs.TriedNames.{is_simple_name}
 use Rattle.typescript_ties.specs.SingleNames.{is_single_name}
-use Rattle.typescript_ties.proofs.Programs.{qualified, merged_namespaces, merged_enums, typed_export, exported_namespace, generics, generic_class, overloads, typed_imports, infers, infers_once, mapped, queries, ambient, sloppy_blocks, sloppy_block, strict_blocks, strict_module, local_types, equated, typed_export_inside, index_parameters, hoisted_names, passed_types, own_names, own_types, decorated_parameters}
+use Rattle.typescript_ties.proofs.Programs.{qualified, merged_namespaces, merged_enums, typed_export, exported_namespace, generics, generic_class, overloads, typed_imports, infers, infers_once, mapped, queries, ambient, sloppy_blocks, sloppy_block, strict_blocks, strict_module, local_types, equated, typed_export_inside, index_parameters, hoisted_names, passed_types, own_names, own_types, decorated_parameters, caught_names, caught_types}
 
 abbrev identifiers_of : Resolved → List ℕ
 identifiers_of nowhere = []
@@ -347,6 +347,32 @@ generics_a_simple = refl
 decorated_parameters_a_simple : is_simple_name decorated_parameters (codes "a") ≡ true
 unfolding encode chars
 decorated_parameters_a_simple = refl
+
+-- what a clause declares is meant in its body alone
+caught_names_meant : map meant_identifiers (resolved_uses caught_names) ≡ (12, 9 ∷ []) ∷ (14, 4 ∷ []) ∷ []
+unfolding encode chars
+caught_names_meant = refl
+
+caught_names_e_agrees : parting_uses caught_names (codes "e") ≡ []
+unfolding encode chars
+caught_names_e_agrees = refl
+
+caught_names_e_free_of_reasons : tangle_reasons caught_names (codes "e") ≡ []
+unfolding encode chars
+caught_names_e_free_of_reasons = refl
+
+-- a type that the body declares by the name joins the clause's symbol
+caught_types_meant : map meant_identifiers (resolved_uses caught_types) ≡ (17, 9 ∷ []) ∷ (19, 6 ∷ []) ∷ []
+unfolding encode chars
+caught_types_meant = refl
+
+caught_types_e_agrees : parting_uses caught_types (codes "e") ≡ []
+unfolding encode chars
+caught_types_e_agrees = refl
+
+caught_types_e_free_of_reasons : tangle_reasons caught_types (codes "e") ≡ []
+unfolding encode chars
+caught_types_e_free_of_reasons = refl
 
 hoisted_names_a_simple : is_simple_name hoisted_names (codes "a") ≡ true
 unfolding encode chars

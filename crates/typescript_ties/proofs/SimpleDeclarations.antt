@@ -1,9 +1,6 @@
 -- The declarations of a name that is declared simply, as the tables and as the language have them.
-use Rattle.std.proofs.Common.{◌≡◌, ℕ, List, [], ◌∷◌, ◌++◌, Some, None, true, false, ◌||◌, map, refl, sym, ap, subst, ◌∙◌, inl, inr, ◌⊎◌}
+use Rattle.std.proofs.Common.{◌≡◌, ℕ, List, [], ◌∷◌, ◌++◌, Some, None, true, false, refl, sym, ap, subst, ◌∙◌, inl, inr, ◌⊎◌}
 use Rattle.std.specs.Prelude.{slice_get}
-use Rattle.std.proofs.lemmas.Bool.{cases_Bool}
-use Rattle.std.proofs.lemmas.Bool.Decides.{eqb_tells}
-use Rattle.semantic_syntax.specs.Members.{contains}
 use Rattle.semantic_syntax.specs.SourceTypes.{is_typescript}
 use Rattle.semantic_syntax.specs.Tables.{Name}
 use Rattle.semantic_tree.specs.Faults.{first_fault}
@@ -12,7 +9,7 @@ use Rattle.semantic_model.specs.Binder.{declared_on_entering, declared_on_openin
 use Rattle.semantic_model.specs.Binding.{get}
 use Rattle.semantic_model.specs.Declaration.{Declaration, plain, hoisted}
 use Rattle.semantic_model.specs.Entries.{Among}
-use Rattle.semantic_model.specs.Event.{declared, declarations, events, placed, placed_by, written_declarations}
+use Rattle.semantic_model.specs.Event.{declarations, events, placed, placed_by, written_declarations}
 use Rattle.semantic_model.specs.Fold.{State, Made, start}
 use Rattle.semantic_model.specs.Hoist.{run}
 use Rattle.semantic_model.specs.Inside.{opens}
@@ -36,9 +33,10 @@ use Rattle.typescript_ties.proofs.KnownPlaces.{IsKnownPlace}
 use Rattle.typescript_ties.proofs.OwnScopes.{among_opened, OwnStep, own_program}
 use Rattle.typescript_ties.proofs.Pairs.{IsPassedAs, WayOf, stays, goes_out, IsSimplePair, AllPairs, pair_of_written, pairs_by}
 use Rattle.binding_laws.proofs.ScopeOpeners.{openers, IsOpened, IsPlaceOpened, places_opened}
-use Rattle.binding_laws.proofs.SmallLaws.{never}
-use Rattle.typescript_ties.proofs.ClearFold.{AllClear, ClearState}
-use Rattle.typescript_ties.proofs.ClearTies.{clear_at_last}
+use Rattle.binding_laws.proofs.SmallLaws.{never, some_is}
+use Rattle.typescript_ties.proofs.ClearNames.{Untouched, Free, AllClear, none_some}
+use Rattle.typescript_ties.proofs.ClearFold.{ClearState}
+use Rattle.typescript_ties.proofs.ClearTies.{AllSeen, outermost, past, clear_at_last}
 use Rattle.typescript_ties.proofs.LikeFlags.{IsVariable}
 use Rattle.typescript_ties.proofs.ToldDeclarations.{common_at, known_at, chain_opened, head_opened, OwnCount, own_count, well_at, IsTold, told_of}
 use Rattle.typescript_ties.proofs.UndeclaredFree.{IsWritten, is_written, not_index, named_among}
@@ -132,45 +130,43 @@ module _ (p : Tree) (h : first_fault p ≡ None) (common : is_common p ≡ true)
 
   -- ---- each variable keeps clear
 
-  contains_among : (cs : List OpenScope) (c : ℕ) → contains (map (λ s. s.number) cs) c ≡ true → (z : OpenScope) × Among z cs × (z.number ≡ c)
-  contains_among [] c e = absurd (never (sym e))
-  contains_among (s ∷ cs) c e = elim (eqb_tells s.number c) [
-    | inl q ↦ (s, inl refl, q.1)
-    | inr q ↦ (let (z, a, n) = contains_among cs c (sym (ap (λ b. b || contains (map (λ o. o.number) cs) c) q.0) ∙ e) in (z, inr a, n))
-  ]
-
-  one_opener : (a b : ℕ) → Some a ≡ Some b → a ≡ b
-  one_opener a b e = cc
+  lasts : (d : Declaration) → Among d all → d.naming.name ≡ x → d.route.target.body ≡ None
+  lasts d a e = let (n, b) = of_tables d a e in b.pair.home.lasting
 
   -- no declaration of the name goes to a scope that a variable of it passes
-  apart : (n : NamedDeclaration) → Among n (named_in p) → n.name ≡ x → n.sort ≡ sort.Var → (q : Place) → Among (entering q) (steps p) → Among n (named_by_node q.node.kind p.source_type q.node q.path) → (passed : List OpenScope) → ((z : OpenScope) → Among z passed → IsPassedAs p q z)
-      → (o : Declaration) → Among o all → o.naming.name ≡ x → contains (map (λ s. s.number) passed) o.route.target.number ≡ false
-  apart n there e is_var q entered at passed each o a f = elim (cases_Bool (contains (map (λ s. s.number) passed) o.route.target.number)) [
-    | inr i ↦ i
-    | inl i ↦ (let (z, in_passed, number) = contains_among passed o.route.target.number i in
-        let w : IsPassedAs p q z = each z in_passed in
-        let (m, b) = of_tables o a f in
+  apart : (n : NamedDeclaration) → Among n (named_in p) → n.name ≡ x → n.sort ≡ sort.Var → (q : Place) → Among (entering q) (steps p) → Among n (named_by_node q.node.kind p.source_type q.node q.path) → (z : OpenScope) → IsPassedAs p q z → Untouched all x z.number
+  apart n there e is_var q entered at z w o a f = (
+    λ number. (let (m, b) = of_tables o a f in
         let open_z : IsOpened (openers (steps p)) z = among_opened (openers (steps p)) q.chain z (each_at (IsPlaceOpened (openers (steps p))) (steps p) (entering q) (places_opened p) entered) w.around in
-        let opener : o.route.target.opener ≡ z.opener = one_opener o.route.target.opener z.opener (sym b.opened ∙ ap (slice_get (openers (steps p))) (sym number) ∙ open_z) in
-        absurd (simply.clear q entered n m at is_var e b.named b.named_so w.container w.among (sym b.pair.home.opener ∙ opener ∙ sym w.stands)))
-  ]
+        let opener : o.route.target.opener ≡ z.opener = some_is o.route.target.opener z.opener (sym b.opened ∙ ap (slice_get (openers (steps p))) number ∙ open_z) in
+        simply.clear q entered n m at is_var e b.named b.named_so w.container w.among (sym b.pair.home.opener ∙ opener ∙ sym w.stands)),
+    λ body. none_some z.number (sym (lasts o a f) ∙ body),
+  )
 
   way_clear : (d : Declaration) (n : NamedDeclaration) → IsBoth d n → d.naming.name ≡ x → WayOf p d n
-      → (d.how ≡ plain) ⊎ ((d.how ≡ hoisted) × (IsVariable d × ((e : Declaration) → Among e all → e.naming.name ≡ d.naming.name → contains (map (λ s. s.number) d.route.passed) e.route.target.number ≡ false)))
+      → (d.how ≡ plain) ⊎ ((d.how ≡ hoisted) × (IsVariable d × ((s : OpenScope) → Among s d.route.passed → Untouched all d.naming.name s.number)))
   way_clear d n b e (stays how) = inl how
-  way_clear d n b e (goes_out how variable is_var q entered at each) = inr (how, (variable, λ o a f. apart n b.named b.named_so is_var q entered at d.route.passed each o a (f ∙ e)))
+  way_clear d n b e (goes_out how variable is_var q entered at each) = inr (how, (variable, λ z i. subst (λ y. Untouched all y z.number) (sym e) (apart n b.named b.named_so is_var q entered at z (each z i))))
 
   -- where it is a function's own, the scope has nothing else
   own_alone : (d : Declaration) (n : NamedDeclaration) → IsBoth d n → d.naming.name ≡ x → is_own_name d ≡ true → (o : Declaration) → Among o all → o.naming.name ≡ d.naming.name → o.route.target.number ≡ d.route.target.number → o.naming.identifier ≡ d.naming.identifier
   own_alone d n b e i o a f number = elim b.pair.own [
     | inl j ↦ absurd (never (sym i ∙ j))
     | inr (is_name, at) ↦ (let (m, c) = of_tables o a (f ∙ e) in
-        let opener : o.route.target.opener ≡ d.route.target.opener = one_opener o.route.target.opener d.route.target.opener (sym c.opened ∙ ap (slice_get (openers (steps p))) number ∙ b.opened) in
+        let opener : o.route.target.opener ≡ d.route.target.opener = some_is o.route.target.opener d.route.target.opener (sym c.opened ∙ ap (slice_get (openers (steps p))) number ∙ b.opened) in
         ap (λ t. t.identifier) c.told ∙ simply.own n m b.named c.named b.named_so c.named_so is_name (sym c.pair.home.opener ∙ opener ∙ b.pair.home.opener) ∙ sym (ap (λ t. t.identifier) b.told))
   ]
 
-  pub is_clear : AllClear all x
-  is_clear d a e = let (n, b) = of_tables d a e in record { lasting = b.pair.home.lasting; alone = own_alone d n b e; way = way_clear d n b e b.pair.how }
+  pub is_clear : AllClear (table_of p) all x
+  is_clear d a e = let (n, b) = of_tables d a e in record { alone = own_alone d n b e; way = inl (record { lasting = b.pair.home.lasting; way = way_clear d n b e b.pair.how }) }
+
+  -- no clause has the name
+  pub all_free : (c : ℕ) → Free all x c
+  all_free c d a e = ((λ q. lasts d a e), (λ q. none_some c (sym (lasts d a e) ∙ q)))
+
+  pub all_seen : (chain : List OpenScope) → AllSeen all x chain
+  all_seen [] = outermost
+  all_seen (s ∷ ss) = past s ss (inl (all_free s.number)) (all_seen ss)
 
   abbrev final : State
   final = run start (events (steps p))
@@ -178,6 +174,10 @@ module _ (p : Tree) (h : first_fault p ≡ None) (common : is_common p ≡ true)
   pub clear_state : ClearState (table_of p) (nearest p) all x final
   clear_state = clear_at_last p h numbered x is_clear
 
+  -- the target binds what was made
+  pub bound_at_target : (m : Made) → Among m (made_of p) → m.declaration.naming.name ≡ x → get final.bindings m.declaration.route.target.number x ≡ Some m.symbol
+  bound_at_target m a e = elim (clear_state.same m a e) [ inl g ↦ g | inr (b, z, g) ↦ absurd (none_some b (sym (lasts m.declaration (of_made m a) e) ∙ z)) ]
+
   -- those in one scope have one symbol
   pub one_symbol : (m n : Made) → Among m (made_of p) → Among n (made_of p) → m.declaration.naming.name ≡ x → n.declaration.naming.name ≡ x → m.declaration.route.target.number ≡ n.declaration.route.target.number → m.symbol ≡ n.symbol
-  one_symbol m n a b e f i = one_opener m.symbol n.symbol (sym (clear_state.same m a e) ∙ ap (λ c. get final.bindings c x) i ∙ clear_state.same n b f)
+  one_symbol m n a b e f i = some_is m.symbol n.symbol (sym (bound_at_target m a e) ∙ ap (λ c. get final.bindings c x) i ∙ bound_at_target n b f)

@@ -62,7 +62,7 @@ use Rattle.binding_laws.proofs.ReferredNodes.{IsReferred, is_referred}
 use Rattle.binding_laws.proofs.SmallLaws.{never}
 use Rattle.typescript_ties.proofs.PartingUses.{none_part}
 use Rattle.typescript_ties.proofs.SharedNames.{asks_own_index, two_share, holds_not, never_free}
-use Rattle.typescript_ties.proofs.SimpleDeclarations.{is_clear, clear_state}
+use Rattle.typescript_ties.proofs.SimpleDeclarations.{is_clear, all_free, all_seen, clear_state, bound_at_target}
 
 -- ---- flags
 
@@ -230,7 +230,7 @@ module _ (p : Tree) (h : first_fault p ≡ None) (common : is_common p ≡ true)
     w = way_or_read q.cursor
 
     tied_is : referred.entry.symbol_id ≡ looked_up p h common typed numbered x no_arguments name.simply alone_members w q.chain
-    tied_is = clearly_tied p h numbered x (is_clear p h common typed numbered x name.simply) referred.number (reference_at q) referred.entry referred.reference referred.row is_x
+    tied_is = clearly_tied p h numbered x (is_clear p h common typed numbered x name.simply) referred.number (reference_at q) referred.entry referred.reference referred.row is_x (rw no_arguments refl) (all_seen p h common typed numbered x name.simply q.chain)
 
     -- no namespace is passed that is no type
     module _ (m : IsMissed p h common typed numbered x no_arguments name.simply alone_members w) where
@@ -241,7 +241,7 @@ module _ (p : Tree) (h : first_fault p ≡ None) (common : is_common p ≡ true)
       missed_symbol = subst (λ y. IsNamed (tables_of p) y x) m.is (subst (IsNamed (tables_of p) m.made.symbol) m_named (declarations_have_names p (has_form p h) m.made m.among))
 
       alike : SeenAlike (seen_as final (get final.bindings m.scope x)) (Some (record { symbol = m.number; flags = m.flags }))
-      alike = subst (SeenAlike (seen_as final (get final.bindings m.scope x))) m.bound (clear.counted m.scope)
+      alike = subst (SeenAlike (seen_as final (get final.bindings m.scope x))) m.bound (clear.counted m.scope (all_free p h common typed numbered x name.simply m.scope))
 
       bound_there : get final.bindings m.scope x ≡ Some m.number
       bound_there = by (get final.bindings m.scope x) alike
@@ -290,7 +290,7 @@ module _ (p : Tree) (h : first_fault p ≡ None) (common : is_common p ≡ true)
 
           -- that scope binds it, too
           bound_own : get final.bindings c x ≡ Some m.number
-          bound_own = clear.same y a named ∙ ap Some same
+          bound_own = bound_at_target p h common typed numbered x name.simply y a named ∙ ap Some same
 
           in_scope : is_in_scope m.scope x y ≡ true
           in_scope = subst (λ d. is_in_scope d x y ≡ true) (clear.apart c m.scope m.number bound_own bound_there) in_own
