@@ -58,7 +58,7 @@ use Rattle.typescript_ties.proofs.GroupNodes.{stands_by}
 use Rattle.typescript_ties.proofs.IndexPlaces.{is_index_named, is_hidden_from, is_hidden_round, IsOfIndex, of_index}
 use Rattle.typescript_ties.proofs.OutsideGroups.{IsAside, aside_of}
 use Rattle.typescript_ties.proofs.Pairs.{container_kind_is}
-use Rattle.typescript_ties.proofs.PastParameters.{is_parameter_named, is_past_parameter}
+use Rattle.typescript_ties.proofs.PastParameters.{is_parameter_named}
 use Rattle.typescript_ties.proofs.ScopeMembers.{IsHidden, SeenAs, seen_as, free_in, SeenToo, seen_too}
 use Rattle.binding_laws.proofs.ScopeOpeners.{openers, IsOpened, AllOpened, IsPlaceOpened, places_opened, root_opener}
 use Rattle.binding_laws.proofs.SmallLaws.{never}

@@ -14,7 +14,6 @@ use Rattle.semantic_tree.specs.Views.{is, is_with_text, has, children_of}
 use Rattle.semantic_tree.specs.declared.node.Node.{Node}
 use Rattle.semantic_model.specs.Binder.{BinderRow, declaration_at, declare_here, is_statement, variable_row, variables_under, is_pure_declarator, function_row, own_function_row, class_row, parameter_excluded, parameters_under, import_flags, import_declarations, marked_ambient, member_named, namespace_row, type_parameter_row, type_parameter_route, catch_names, ids, declared_by, declared_inside}
 use Rattle.semantic_model.specs.Declaration.{Declaration, plain, caught, here}
-use Rattle.semantic_model.specs.EachStep.{EachStep}
 use Rattle.semantic_model.specs.Names.{bound_names, bound_below, names_at}
 use Rattle.semantic_model.specs.Namespace.{InstanceState, non_instantiated, const_enum_only, instantiated, instance_state, nodes_around}
 use Rattle.semantic_model.specs.Place as place

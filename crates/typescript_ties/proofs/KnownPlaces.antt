@@ -1,5 +1,5 @@
 -- What is known of each place of a program without a fault.
-use Rattle.std.proofs.Common.{◌≡◌, ℕ, List, [], ◌∷◌, Option, None, Bool, true, false, ◌&&◌, ◌||◌, not, refl, subst, inl, inr}
+use Rattle.std.proofs.Common.{◌≡◌, ℕ, List, [], Option, None, Bool, true, false, ◌&&◌, ◌||◌, not, refl, subst, inl, inr}
 use Rattle.std.specs.List.{list_all}
 use Rattle.std.proofs.lemmas.Bool.{cases_Bool, not-true}
 use Rattle.semantic_syntax.proofs.Truth.{and_first, and_second, and_false}

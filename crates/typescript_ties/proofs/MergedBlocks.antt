@@ -14,7 +14,6 @@ use Rattle.semantic_model.specs.TablesOf.{opened_entry}
 use Rattle.semantic_model.proofs.once.ListedUnder.{name_tells}
 use Rattle.binding_laws.proofs.ListLaws.{among_filter}
 use Rattle.binding_laws.proofs.ScopeOpeners.{openers}
-use Rattle.binding_laws.proofs.SmallLaws.{never}
 use Rattle.tangle_model.specs.Mention.{Mention}
 use Rattle.tangle_model.specs.Repeated.{Key, same_key, is_mention_of, key_of, keys_of, key_stands, repeats}
 use Rattle.tangle_model.specs.Tangled.{is_merged, merged_openers}

@@ -7,7 +7,6 @@ use Rattle.semantic_syntax.specs.SourceTypes.{is_typescript}
 use Rattle.semantic_syntax.specs.Tables.{Name, Symbol, FreeLists}
 use Rattle.semantic_tree.specs.Faults.{first_fault}
 use Rattle.semantic_tree.specs.Tree.{Tree}
-use Rattle.semantic_tree.specs.Views.{is}
 use Rattle.semantic_model.specs.Entries.{Among, times}
 use Rattle.semantic_model.specs.Fits.{StandsUnder}
 use Rattle.semantic_model.specs.FreeNames.{free_references}

@@ -1,9 +1,9 @@
 -- What is known of a declaration that is simple.
-use Rattle.std.proofs.Common.{◌≡◌, Bool, true, false, ◌&&◌, ◌||◌, not, sym}
+use Rattle.std.proofs.Common.{◌≡◌, true, false, ◌&&◌, not}
 use Rattle.std.proofs.lemmas.Bool.{not-true}
 use denote.Enum.Bare.{same_true}
 use Rattle.semantic_syntax.proofs.Truth.{and_first, and_second}
-use Rattle.binding_laws.proofs.SmallLaws.{never, implied}
+use Rattle.binding_laws.proofs.SmallLaws.{implied}
 use Rattle.typescript_ties.specs.Containers.{is_container}
 use Rattle.typescript_ties.specs.NamedDeclarations.{NamedDeclaration, is_sort}
 use Rattle.typescript_ties.specs.SimpleNames.{is_simple_sort, is_apart, stands_with_parameters, is_simple}

@@ -1,5 +1,5 @@
 -- The declarations of the tables, by the nodes that declare; and a name that nothing declares.
-use Rattle.std.proofs.Common.{◌≡◌, ℕ, List, [], ◌∷◌, ◌++◌, Option, Some, None, Bool, true, false, ◌||◌, cond, map, flat_map, refl, sym, ap, subst, ◌∙◌, inl, inr, ◌⊎◌, if◌then◌else◌, bytes_eq}
+use Rattle.std.proofs.Common.{◌≡◌, ℕ, List, [], ◌∷◌, ◌++◌, Option, Some, None, Bool, true, false, cond, map, flat_map, refl, sym, ap, subst, ◌∙◌, inl, inr, ◌⊎◌, bytes_eq}
 use Rattle.std.proofs.lemmas.Bool.{or_parts}
 use Rattle.std.specs.List.{list_any}
 use Rattle.semantic_kinds.specs.declared.kind.AstType.{AstType}
@@ -12,10 +12,10 @@ use Rattle.semantic_tree.specs.Views.{is}
 use Rattle.semantic_tree.specs.declared.node.Node.{Node}
 use Rattle.semantic_model.specs.Binder.{declared_by, declared_inside, declared_on_entering, declared_on_opening}
 use Rattle.semantic_model.specs.Cursor.{on_entering}
-use Rattle.semantic_model.specs.Declaration.{Declaration, How, plain, hoisted, moved, caught}
+use Rattle.semantic_model.specs.Declaration.{Declaration}
 use Rattle.semantic_model.specs.EachStep.{EachStep}
 use Rattle.semantic_model.specs.Entries.{Among}
-use Rattle.semantic_model.specs.Event.{Event, declares, takes_over, declared, declarations, events, events_of, declares_all, is_barred, staying_declaration, placed, placed_by, taken_over, is_catch_body, written_declarations}
+use Rattle.semantic_model.specs.Event.{Event, declares, takes_over, declared, declarations, events, events_of, declares_all, placed, taken_over, is_catch_body, written_declarations}
 use Rattle.semantic_model.specs.Fits.{DeclaredAs}
 use Rattle.semantic_model.specs.NodeTable.{node_tables}
 use Rattle.semantic_model.specs.Place as place
