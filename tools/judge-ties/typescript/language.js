@@ -45,7 +45,7 @@ const strictBy = ({ kind, children }) => kind === 'Class' || (kind === 'Program'
 function isStrict(node, isModule) {
   for (let above = node.parent; above; above = above.parent) {
     const body = child(above, 'body');
-    if (strictBy(above) || (body && /Function|TSNamespaceDeclaration/.test(above.kind) && strictBy({ ...body, kind: 'Program' }))) return true;
+    if (strictBy(above) || (body && /Function|TS(Namespace|ExternalModule|Global)Declaration/.test(above.kind) && strictBy({ ...body, kind: 'Program' }))) return true;
   }
   return isModule;
 }
