@@ -4,6 +4,7 @@ pub mod Named
 pub mod Shown
 pub mod Places
 pub mod Pushed
+pub mod BoundRows
 pub mod Claimed
 pub mod Parents
 pub mod Outward

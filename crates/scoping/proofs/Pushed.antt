@@ -2,6 +2,7 @@
 use Rattle.std.proofs.Common.{◌≡◌, ℕ, ◌<◌, ◌≤◌, ◌+◌, List, [], ◌∷◌, ◌++◌, length, map, refl, ap, ◌∙◌, arith, length-append}
 use Rattle.std.specs.Global.{Vec}
 use Rattle.std.specs.List.{AllByRecursion}
+use Rattle.smallvec.specs.SmallVec.{SmallVec}
 use Rattle.semantic_syntax.specs.declared.references.Reference.{Reference}
 use Rattle.std.proofs.lemmas.List.{length-map}
 use Rattle.semantic_syntax.specs.Tables.{Name}
@@ -16,7 +17,7 @@ use Rattle.scoping.proofs.Shown.{tables_eq, bound_more, listed_more, symbols_pus
 -- the row is pushed, and an empty list of uses for it, where room was made for each
 module _ (a : Inside) (sound : IsSound a) (names : List Name) (name : Name) (row : Row) (interned : IsInterned a.names names name row.name)
     (symbols : Vec Row) (had : List Row) (y : Row) (pushed : symbols.items ≡ had ++ y ∷ []) (kept : had ≡ a.symbols.items) (is : y ≡ row)
-    (uses : Vec (Vec ℕ)) (had_uses : List (Vec ℕ)) (listed : rows uses.items ≡ rows had_uses ++ [] ∷ []) (kept_uses : had_uses ≡ a.uses.items) where
+    (uses : Vec (SmallVec ℕ)) (had_uses : List (SmallVec ℕ)) (listed : rows uses.items ≡ rows had_uses ++ [] ∷ []) (kept_uses : had_uses ≡ a.uses.items) where
   made : symbols.items ≡ a.symbols.items ++ row ∷ []
   made = pushed ∙ (λ j. kept j ++ is j ∷ [])
 

@@ -5,6 +5,7 @@ use Rattle.std.specs.Global.{Vec}
 use Rattle.std.specs.Vec.{vec_len}
 use Rattle.std.specs.Map.{lookup}
 use Rattle.std.specs.Str.{bytes_eq}
+use Rattle.smallvec.specs.SmallVec.{SmallVec}
 use Rattle.std.proofs.Math.ListN.{set, get_or-append}
 use Rattle.std.proofs.lemmas.List.{map-set, get_or-map, get_or_default, length-map, map-append}
 use Rattle.indexmap.specs.IndexMap.{insert_entry, shift_remove_entry}
@@ -272,7 +273,7 @@ module _ (a : Inside) (sound : IsSound a) where
     references_fit = sound.references_fit;
   }
 
-  pub sound_uses : (v : Vec (Vec ℕ)) → length v.items ≡ length a.uses.items → AllByRecursion (AllByRecursion (λ r. r < length a.references.items)) (rows v.items) → IsSound (record a { uses = v })
+  pub sound_uses : (v : Vec (SmallVec ℕ)) → length v.items ≡ length a.uses.items → AllByRecursion (AllByRecursion (λ r. r < length a.references.items)) (rows v.items) → IsSound (record a { uses = v })
   sound_uses v same h = record {
     counted = sound.counted;
     bound = sound.bound;

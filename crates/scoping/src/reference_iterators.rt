@@ -5,6 +5,7 @@ ghost use Rattle.std.specs.List.{AllByRecursion};
 ghost use Rattle.std.specs.Map.Iter.{TakesFirst, TakesLast, deref};
 ghost use Rattle.semantic_syntax.specs.Reading.{no_reference};
 
+use scoping_rows::use_list::UseList;
 use semantic_syntax::{Reference, ReferenceId};
 use std::marker::Model;
 use std::slice::Iter;
@@ -12,7 +13,7 @@ use std::slice::Iter;
 /// The lists of uses that are left, one for each symbol.
 #[derive(Drop)]
 pub struct UseLists<'s> {
-    lists: Iter<'s, Vec<ReferenceId>>,
+    lists: Iter<'s, UseList>,
 }
 
 impl<'s> Model for UseLists<'s> {
@@ -25,7 +26,7 @@ impl<'s> Model for UseLists<'s> {
 }
 
 impl<'s> UseLists<'s> {
-    pub(crate) fn new(lists: &'s [Vec<ReferenceId>]) -> UseLists<'s>
+    pub(crate) fn new(lists: &'s [UseList]) -> UseLists<'s>
         ensures { result ≡ map (λ v. v.items) lists.now }
     {
         UseLists {

@@ -24,7 +24,8 @@ use scoping_rows::binding_table::BindingTable;
 use scoping_rows::free_table::FreeTable;
 use scoping_rows::name_table::NameTable;
 use scoping_rows::symbol_row::SymbolRow;
-use semantic_syntax::{NodeId, Reference, ReferenceId, ScopeFlags, ScopeId, SymbolId};
+use scoping_rows::use_list::UseList;
+use semantic_syntax::{NodeId, Reference, ScopeFlags, ScopeId, SymbolId};
 use std::alloc::{AllocError, Global};
 use std::collections::BTreeSet;
 use std::marker::Model;
@@ -56,7 +57,7 @@ pub struct Scoping {
     bindings: BindingTable,
     symbols: Vec<SymbolRow>,
     references: Vec<Reference>,
-    uses: Vec<Vec<ReferenceId>>,
+    uses: Vec<UseList>,
     free: FreeTable,
     pure_symbols: BTreeSet<SymbolId>,
 }

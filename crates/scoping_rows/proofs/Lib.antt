@@ -7,6 +7,7 @@ pub mod Rows
 pub mod Entries
 pub mod Renumbered
 pub mod Sweeps
+pub mod Retained
 pub mod Keeping
 pub mod Clones
 pub mod Rising

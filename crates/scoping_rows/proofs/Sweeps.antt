@@ -1,6 +1,6 @@
 -- Lists that are changed one after the other.
 use Rattle.std.proofs.Common.{◌≡◌, ℕ, ◌<◌, ◌≤◌, ◌+◌, ◌++◌, ◌==◌, Bool, true, false, List, [], ◌∷◌, take, drop, length, get_or, map, refl, sym, ap, subst, ◌∙◌, arith}
-use Rattle.std.specs.Global.{Vec}
+use Rattle.smallvec.specs.SmallVec.{SmallVec}
 use Rattle.std.proofs.Math.ListN.{set}
 use Rattle.std.proofs.lemmas.List.{ext_get_or, length-set, get_or-set_same, get_or-set_other, get_or-map, length-map, map-set, drop_all}
 use Rattle.std.proofs.lemmas.Bool.{eqb-true, eqb-false}
@@ -52,7 +52,7 @@ whole {X = X} n xs now count same = rw (drop_all (length now) xs (omega arith), 
 
 -- vectors that are changed one after the other
 module _ {X : Type 0} (g : List X → List X) where
-  pub swept_row : (was : List (List X)) (now : List (Vec X)) (i : ℕ) (past row : Vec X) → i < length now → row.items ≡ g (get_or now i past).items → IsSwept (λ _. g) was (rows now) i
+  pub swept_row : (was : List (List X)) (now : List (SmallVec X)) (i : ℕ) (past row : SmallVec X) → i < length now → row.items ≡ g (get_or now i past).items → IsSwept (λ _. g) was (rows now) i
       → IsSwept (λ _. g) was (rows (set now i row)) (i + 1)
   swept_row was now i past row within is swept =
       rw map-set
@@ -60,7 +60,7 @@ module _ {X : Type 0} (g : List X → List X) where
       (is ∙ ap g (sym (get_or-map (λ v. v.items) now i past [] within))) swept)
 
   -- and all of them are written back
-  pub swept_rows : (was lent now : List (Vec X)) (n i : ℕ) → lent ≡ was → n ≡ length was → length now ≡ length was → length was ≤ i → IsSwept (λ _. g) (rows lent) (rows now) i
+  pub swept_rows : (was lent now : List (SmallVec X)) (n i : ℕ) → lent ≡ was → n ≡ length was → length now ≡ length was → length was ≤ i → IsSwept (λ _. g) (rows lent) (rows now) i
       → rows (take n (now ++ drop (length now) was)) ≡ map g (rows was)
   swept_rows was lent now n i is count same past swept =
       ap rows (whole n was now count same)

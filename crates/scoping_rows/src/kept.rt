@@ -1,14 +1,12 @@
 //! What is kept of lists as references and symbols are dropped.
-ghost use Rattle.std.specs.Prelude.{◌≡◌, ◌<◌, ℕ, map, length, filter, is_some, slice_index_or, []};
-ghost use Rattle.std.specs.Map.{lookup};
-ghost use Rattle.scoping_rows.specs.Flat.{key_eq};
-ghost use Rattle.scoping_rows.specs.Kept.{is_unmarked, without_marked, is_used_by_value, without_type_uses, is_of_types, goes_with_types, stays};
+ghost use Rattle.std.specs.Prelude.{◌≡◌};
+ghost use Rattle.scoping_rows.specs.Kept.{is_unmarked, is_used_by_value, without_type_uses, is_of_types, goes_with_types, stays};
 
 use crate::symbol_row::SymbolRow;
 use semantic_syntax::{Reference, ReferenceFlags, ReferenceId, SymbolFlags, SymbolId};
 
 /// Whether the reference is not marked. One past the end is not.
-fn is_unmarked(excluded: &[bool], reference: ReferenceId) -> bool
+pub(crate) fn is_unmarked(excluded: &[bool], reference: ReferenceId) -> bool
     ensures { result ≡ is_unmarked excluded.now reference }
 {
     match excluded.get(reference.index()) {
@@ -25,7 +23,7 @@ fn is_of_types(way: ReferenceFlags) -> bool
 }
 
 /// Whether the reference is not one of types alone.
-fn is_used_by_value(references: &[Reference], reference: ReferenceId) -> bool
+pub(crate) fn is_used_by_value(references: &[Reference], reference: ReferenceId) -> bool
     ensures { result ≡ is_used_by_value references.now reference }
 {
     match references.get(reference.index()) {
@@ -54,36 +52,9 @@ pub(crate) fn stays(rows: &[SymbolRow], symbol: SymbolId) -> bool
     }
 }
 
-/// Drops the marked references.
-fn retain_unmarked(list: &mut Vec<ReferenceId>, excluded: &[bool])
-    ensures { list.new.items ≡ without_marked excluded.now list.old.items }
-{
-    list.retain(|reference| is_unmarked(excluded, *reference));
-}
-
 /// Drops the references of types alone.
 pub(crate) fn retain_values(list: &mut Vec<ReferenceId>, references: &[Reference])
     ensures { list.new.items ≡ without_type_uses references.now list.old.items }
 {
     list.retain(|reference| is_used_by_value(references, *reference));
-}
-
-/// Drops the marked references from each of the lists.
-pub fn retain_unmarked_in_each(lists: &mut Vec<Vec<ReferenceId>>, excluded: &[bool])
-    ensures { map (λ v. v.items) lists.new.items
-        ≡ map (without_marked excluded.now) (map (λ v. v.items) lists.old.items) }
-{
-    for list in lists.iter_mut() {
-        retain_unmarked(list, excluded);
-    }
-}
-
-/// Drops the references of types alone from each of the lists.
-pub fn retain_values_in_each(lists: &mut Vec<Vec<ReferenceId>>, references: &[Reference])
-    ensures { map (λ v. v.items) lists.new.items
-        ≡ map (without_type_uses references.now) (map (λ v. v.items) lists.old.items) }
-{
-    for list in lists.iter_mut() {
-        retain_values(list, references);
-    }
 }

@@ -10,3 +10,4 @@ pub mod positions;
 pub mod redeclarations;
 pub mod scope_slots;
 pub mod symbol_row;
+pub mod use_list;

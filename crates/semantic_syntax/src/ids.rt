@@ -116,8 +116,8 @@ impl SymbolId {
     }
 }
 
-/// The id of a reference: its number in preorder, from 0.
-#[derive(Clone, Copy, PartialEq, Eq, PartialOrd, Ord, Hash, Debug)]
+/// The id of a reference: its number in preorder, from 0. The default fills free places of lists.
+#[derive(Clone, Copy, PartialEq, Eq, PartialOrd, Ord, Hash, Debug, Default)]
 pub struct ReferenceId {
     number: u32,
 }

@@ -1,7 +1,8 @@
 //! Bindings.
-ghost use Rattle.std.specs.Prelude.{◌≡◌, ◌<◌, ◌++◌, [], ◌∷◌, length, is_some, None, IfOk, OnOk, OnErr};
+ghost use Rattle.std.specs.Prelude.{◌≡◌, ◌<◌, ◌++◌, [], ◌∷◌, length, map, nat_eq, slice_index_or, slice_set, is_some, None, IfOk, OnOk, OnErr};
 ghost use Rattle.std.specs.Str.{bytes_eq};
 ghost use Rattle.std.specs.Map.{lookup, values_of};
+ghost use Rattle.indexmap.specs.IndexMap.{insert_entry};
 ghost use Rattle.scoping.specs.Claimed.{claimed};
 ghost use Rattle.scoping.specs.Numbering.{numbered_from};
 ghost use Rattle.scoping_rows.specs.Names.{name_of};
@@ -11,9 +12,41 @@ ghost use Rattle.semantic_syntax.specs.Writing.{bound, unbound};
 use super::Scoping;
 use super::room::{push_symbol, reserve_symbol};
 use crate::bindings::{AllBindings, Bindings, BoundSymbols};
+use scoping_rows::binding_table::BindingTable;
 use scoping_rows::symbol_row::SymbolRow;
+use scoping_rows::use_list::UseList;
 use semantic_syntax::{Ident, NodeId, ScopeId, Span, SymbolFlags, SymbolId};
-use std::alloc::AllocError;
+use std::alloc::{AllocError, Global};
+
+/// Adds a symbol without uses, which `bind_in` binds to its name.
+fn bind_row(
+    alloc: Global,
+    bindings: &mut BindingTable,
+    symbols: &mut Vec<SymbolRow>,
+    uses: &mut Vec<UseList>,
+    bind_in: ScopeId,
+    row: SymbolRow,
+) -> Result<SymbolId, AllocError>
+    requires room { length symbols.old.items < 4294967295 }
+    requires bind_in { bind_in < length bindings.old }
+    ensures made { IfOk result (λ y. y ≡ length symbols.old.items) }
+    ensures bindings { OnOk result
+        (bindings.new ≡ slice_set bindings.old bind_in
+        (insert_entry nat_eq (slice_index_or bindings.old bind_in []) row.name
+        (length symbols.old.items))) }
+    ensures symbols { OnOk result (symbols.new.items ≡ symbols.old.items ++ row ∷ []) }
+    ensures uses { OnOk result
+        (map (λ v. v.items) uses.new.items ≡ map (λ v. v.items) uses.old.items ++ [] ∷ []) }
+    ensures kept_bindings { OnErr result (bindings.new ≡ bindings.old) }
+    ensures kept_symbols { OnErr result (symbols.new.items ≡ symbols.old.items) }
+    ensures kept_uses { OnErr result (uses.new.items ≡ uses.old.items) }
+{
+    let id = SymbolId::new(symbols.len() as u32);
+    reserve_symbol(symbols, uses)?;
+    bindings.insert(bind_in, row.name(), id)?;
+    push_symbol(alloc, symbols, uses, row);
+    Ok(id)
+}
 
 impl Scoping {
     /// Makes a symbol of `scope` that `bind_in` binds to the name.
@@ -45,12 +78,16 @@ impl Scoping {
             }) }
         ensures err { OnErr result (self.new ≡ self.old) }
     {
-        let id = SymbolId::new(self.symbols.len() as u32);
-        reserve_symbol(&mut self.symbols, &mut self.uses)?;
         let number = self.names.intern(name)?;
-        self.bindings.insert(bind_in, number, id)?;
         let row = SymbolRow::new(number, span, flags, scope, node);
-        push_symbol(self.alloc, &mut self.symbols, &mut self.uses, row);
+        let id = bind_row(
+            self.alloc,
+            &mut self.bindings,
+            &mut self.symbols,
+            &mut self.uses,
+            bind_in,
+            row,
+        )?;
         Ok(id)
     }
 
@@ -79,15 +116,19 @@ impl Scoping {
             }) }
         ensures err { OnErr result (self.new ≡ self.old) }
     {
-        let id = SymbolId::new(self.symbols.len() as u32);
-        reserve_symbol(&mut self.symbols, &mut self.uses)?;
         let number = self.names.intern(name)?;
         if let Some(symbol) = self.bindings.get(scope, number) {
             return Ok(Some(symbol));
         }
-        self.bindings.insert(scope, number, id)?;
         let row = SymbolRow::new(number, span, flags, scope, node);
-        push_symbol(self.alloc, &mut self.symbols, &mut self.uses, row);
+        bind_row(
+            self.alloc,
+            &mut self.bindings,
+            &mut self.symbols,
+            &mut self.uses,
+            scope,
+            row,
+        )?;
         Ok(None)
     }
 

@@ -6,7 +6,8 @@ use scoping_rows::binding_table::BindingTable;
 use scoping_rows::free_table::FreeTable;
 use scoping_rows::name_table::NameTable;
 use scoping_rows::symbol_row::SymbolRow;
-use semantic_syntax::{Reference, ReferenceId};
+use scoping_rows::use_list::UseList;
+use semantic_syntax::Reference;
 use std::alloc::{AllocError, Global};
 
 /// The names, and what stands under their numbers.
@@ -42,7 +43,7 @@ struct Rows {
     scopes: Vec<ScopeRow>,
     symbols: Vec<SymbolRow>,
     references: Vec<Reference>,
-    uses: Vec<Vec<ReferenceId>>,
+    uses: Vec<UseList>,
 }
 
 impl Rows {
@@ -51,7 +52,7 @@ impl Rows {
         scopes: &Vec<ScopeRow>,
         symbols: &Vec<SymbolRow>,
         references: &Vec<Reference>,
-        uses: &Vec<Vec<ReferenceId>>,
+        uses: &Vec<UseList>,
     ) -> Result<Rows, AllocError>
         ensures scopes { IfOk result (λ t. t.scopes.items ≡ scopes.now.items) }
         ensures symbols { IfOk result (λ t. t.symbols.items ≡ symbols.now.items) }

@@ -9,8 +9,7 @@ ghost use Rattle.scoping_rows.specs.Kept.{without_marked, delisted};
 ghost use Rattle.scoping.specs.Kept.{without_typescript};
 
 use super::Scoping;
-use scoping_rows::kept::{retain_unmarked_in_each, retain_values_in_each};
-use scoping_rows::positions::take_out;
+use scoping_rows::use_list::{retain_unmarked_in_each, retain_values_in_each, take_out_use};
 use semantic_syntax::{Ident, ReferenceId, SymbolId};
 
 impl Scoping {
@@ -19,7 +18,7 @@ impl Scoping {
         requires { symbol < length self.old.symbols }
         ensures { self.new ≡ without_use self.old symbol reference }
     {
-        take_out(&mut self.uses[symbol.index()], reference);
+        take_out_use(&mut self.uses[symbol.index()], reference);
     }
 
     /// Takes the reference out of the uses of its symbol. It keeps its symbol. Without one nothing happens.

@@ -3,14 +3,15 @@ ghost use Rattle.std.specs.Prelude.{◌≡◌, ◌<◌, ◌++◌, [], ◌∷◌,
 
 use super::ScopeRow;
 use scoping_rows::symbol_row::SymbolRow;
-use semantic_syntax::{Reference, ReferenceId};
+use scoping_rows::use_list::UseList;
+use semantic_syntax::Reference;
 use std::alloc::{AllocError, Global};
 
 /// Makes room for more scopes, for more symbols with their lists of uses, and for more references.
 pub(crate) fn reserve_rows(
     scopes: &mut Vec<ScopeRow>,
     symbols: &mut Vec<SymbolRow>,
-    uses: &mut Vec<Vec<ReferenceId>>,
+    uses: &mut Vec<UseList>,
     references: &mut Vec<Reference>,
     more_scopes: usize,
     more_symbols: usize,
@@ -30,7 +31,7 @@ pub(crate) fn reserve_rows(
 /// Makes room for one more symbol and for its list of uses.
 pub(crate) fn reserve_symbol(
     symbols: &mut Vec<SymbolRow>,
-    uses: &mut Vec<Vec<ReferenceId>>,
+    uses: &mut Vec<UseList>,
 ) -> Result<(), AllocError>
     ensures symbols { symbols.new.items ≡ symbols.old.items }
     ensures uses { uses.new.items ≡ uses.old.items }
@@ -53,7 +54,7 @@ pub(crate) fn push_in_room<T: Drop>(list: &mut Vec<T>, value: T)
 pub(crate) fn push_symbol(
     alloc: Global,
     symbols: &mut Vec<SymbolRow>,
-    uses: &mut Vec<Vec<ReferenceId>>,
+    uses: &mut Vec<UseList>,
     row: SymbolRow,
 )
     requires room { vec_len symbols.old < vec_capacity symbols.old }
@@ -63,5 +64,5 @@ pub(crate) fn push_symbol(
         ≡ map (λ v. v.items) uses.old.items ++ [] ∷ [] }
 {
     push_in_room(symbols, row);
-    push_in_room(uses, Vec::new(alloc));
+    push_in_room(uses, UseList::new(alloc));
 }

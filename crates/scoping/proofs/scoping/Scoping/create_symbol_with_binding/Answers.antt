@@ -1,83 +1,47 @@
-use Rattle.std.proofs.Common.{◌≡◌, [], length, map, get_or, refl, ap, ◌∙◌, arith}
-use Rattle.std.specs.Str.{bytes_eq}
-use Rattle.std.proofs.Math.ListN.{set}
-use Rattle.std.proofs.lemmas.List.{length-set, length-map}
-use Rattle.indexmap.specs.IndexMap.{insert_entry}
-use Rattle.scoping_rows.specs.Names.{name_of}
-use Rattle.scoping_rows.specs.Row.{symbol_of_row}
+use Rattle.std.proofs.Common.{refl, ap}
+use Rattle.std.proofs.lemmas.List.{length-map}
 use Rattle.semantic_syntax.proofs.Results.{on_err}
 use Rattle.scoping.proofs.Clones.{sound_same, tables_same}
 use Rattle.scoping_rows.proofs.Rows.{rows}
-use Rattle.scoping.proofs.Pushed.{count_pushed, tables_pushed, sound_pushed}
-use Rattle.scoping.proofs.Shown.{bound_insert, shown_insert, scope_within, err_interned, sound_interned, sound_bindings, bindings_interned}
+use Rattle.scoping.proofs.BoundRows.{tables_bound, sound_bound}
+use Rattle.scoping.proofs.Shown.{scope_within, err_interned, sound_interned}
 use Rattle.scoping.proofs.scoping.Scoping.create_symbol_with_binding.Goals as goal
 
-pub insert-requires : goal.insert-requires
-insert-requires c = scope_within c.self.inside c.self.invariant c.args.bind_in (rw (← c.self.view_is) at c.requires.bind_in)
+pub bind_row-requires-clause-room : goal.bind_row-requires-clause-room
+bind_row-requires-clause-room c = rw length-map at (rw (← c.self.view_is) at c.requires.room)
+
+pub bind_row-requires-clause-bind_in : goal.bind_row-requires-clause-bind_in
+bind_row-requires-clause-bind_in c = scope_within c.self.inside c.self.invariant c.args.bind_in (rw (← c.self.view_is) at c.requires.bind_in)
 
 pub invariant_of-self : goal.invariant_of-self
-invariant_of-self c =
-    let room = c.reserve_symbol.ensures in
-    sound_same c.self.inside _ c.self.invariant refl refl refl room.symbols refl (ap rows room.uses) refl
-
-pub returns-in_err-reserve_symbol-clause-err : goal.returns-in_err-reserve_symbol-clause-err
-returns-in_err-reserve_symbol-clause-err c =
-    let room = c.reserve_symbol.ensures in
-    rw (← c.self.view_is) (on_err c.from_residual.result (tables_same c.self.inside _ _ _ _ _ _ _ _ refl refl refl room.symbols refl (ap rows room.uses) refl refl))
-
-pub invariant_of-self-in_err-number : goal.invariant_of-self-in_err-number
-invariant_of-self-in_err-number c =
-    let room = c.reserve_symbol.ensures in
-    sound_same c.self.inside _ c.self.invariant c.in_err-number.ensures.err refl refl room.symbols refl (ap rows room.uses) refl
+invariant_of-self c = sound_same c.self.inside _ c.self.invariant c.in_err-number.ensures.err refl refl refl refl refl refl
 
 pub returns-in_err-number-clause-err : goal.returns-in_err-number-clause-err
 returns-in_err-number-clause-err c =
-    let room = c.reserve_symbol.ensures in
-    rw (← c.self.view_is) (on_err c.from_residual-in_err-number.result (tables_same c.self.inside _ _ _ _ _ _ _ _ c.in_err-number.ensures.err refl refl room.symbols refl (ap rows room.uses) refl refl))
+    rw (← c.self.view_is) (on_err c.from_residual.result (tables_same c.self.inside _ _ _ _ _ _ _ _ c.in_err-number.ensures.err refl refl refl refl refl refl refl))
 
-pub returns-in_err-insert-clause-err : goal.returns-in_err-insert-clause-err
-returns-in_err-insert-clause-err c =
-    rw (c.in_err-insert.ensures.err, c.reserve_symbol.ensures.symbols, c.reserve_symbol.ensures.uses)
-    (err_interned c.self.inside c.self.invariant _ _ _ c.in_ok-number.ensures.ok c.from_residual-in_err-insert.result _ c.self.view_is)
+pub invariant_of-self-in_err-id : goal.invariant_of-self-in_err-id
+invariant_of-self-in_err-id c =
+    let kept = c.in_err-id.ensures in
+    sound_same (record c.self.inside { names = c.intern.new.self }) _ (sound_interned c.self.inside c.self.invariant _ _ _ c.in_ok-number.ensures.ok) refl refl kept.kept_bindings kept.kept_symbols refl (ap rows kept.kept_uses) refl
+
+pub returns-in_err-id-clause-err : goal.returns-in_err-id-clause-err
+returns-in_err-id-clause-err c =
+    let kept = c.in_err-id.ensures in
+    rw (kept.kept_bindings, kept.kept_symbols, kept.kept_uses)
+    (err_interned c.self.inside c.self.invariant _ _ _ c.in_ok-number.ensures.ok c.from_residual-in_err-id.result _ c.self.view_is)
 
 pub invariant_of-self-2 : goal.invariant_of-self-2
 invariant_of-self-2 c =
-    let interned = c.in_ok-number.ensures.ok in
-    let sound = sound_pushed c.self.inside c.self.invariant _ _ _ interned c.push_symbol.new.symbols _ _ c.push_symbol.ensures.symbols c.reserve_symbol.ensures.symbols c.new-row.ensures
-    c.push_symbol.new.uses _ c.push_symbol.ensures.uses c.reserve_symbol.ensures.uses (rw (← c.self.view_is) at c.requires.room) in
-    let count = count_pushed c.self.inside c.self.invariant _ _ _ interned c.push_symbol.new.symbols _ _ c.push_symbol.ensures.symbols c.reserve_symbol.ensures.symbols c.new-row.ensures
-    c.push_symbol.new.uses _ c.push_symbol.ensures.uses c.reserve_symbol.ensures.uses in
-    rw c.in_ok-insert.ensures.ok
-    (sound_bindings _ sound _ (length-set c.self.inside.bindings c.args.bind_in _)
-    (bound_insert _ _ c.args.bind_in c.in_ok-number.number c.new-id.result c.self.inside.bindings interned.number.within
-    (omega (arith, count, c.new-id.ensures, c.len.ensures, c.self.inside.symbols.ok.0)) sound.bound))
+    let within = scope_within c.self.inside c.self.invariant c.args.bind_in (rw (← c.self.view_is) at c.requires.bind_in) in
+    let told = c.in_ok-id.ensures in
+    sound_bound c.self.inside c.self.invariant _ _ _ c.in_ok-number.ensures.ok c.args.bind_in within _ c.new-row.ensures _ told.bindings _ told.symbols _ told.uses (rw (← c.self.view_is) at c.requires.room)
 
 pub returns-clause-ok : goal.returns-clause-ok
 returns-clause-ok c =
-    let interned = c.in_ok-number.ensures.ok in
-    let sound = sound_interned c.self.inside c.self.invariant _ _ _ interned in
     let within = scope_within c.self.inside c.self.invariant c.args.bind_in (rw (← c.self.view_is) at c.requires.bind_in) in
-    let id : c.new-id.result ≡ length (map (symbol_of_row c.self.inside.names) c.self.inside.symbols.items) =
-    omega (arith, c.new-id.ensures, c.len.ensures, c.self.inside.symbols.ok.0, length-map c.self.inside.symbols.items (symbol_of_row c.self.inside.names)) in
-    let pushed = tables_pushed c.self.inside c.self.invariant _ _ _ interned c.push_symbol.new.symbols _ _ c.push_symbol.ensures.symbols c.reserve_symbol.ensures.symbols c.new-row.ensures
-    c.push_symbol.new.uses _ c.push_symbol.ensures.uses c.reserve_symbol.ensures.uses in
-    let bound = shown_insert _ _ c.self.inside.bindings sound.bound c.args.bind_in within _ _ interned.number c.new-id.result
-    ∙ ap (λ bs. set bs c.args.bind_in (insert_entry bytes_eq (get_or bs c.args.bind_in []) (name_of c.args.name) c.new-id.result)) (bindings_interned c.self.inside c.self.invariant _ _ _ interned) in
-    rw (← c.self.view_is, c.in_ok-insert.ensures.ok, ← id) (λ j. record (pushed j) { bindings = bound j })
-
-pub overflow_cast-len : goal.overflow_cast-len
-overflow_cast-len c = omega (arith, c.len.ensures, c.self.inside.symbols.ok.0, c.self.invariant.symbols_fit)
-
-pub push_symbol-requires-clause-room : goal.push_symbol-requires-clause-room
-push_symbol-requires-clause-room c = c.in_ok-reserve_symbol.ensures.room
-
-pub push_symbol-requires-clause-uses_room : goal.push_symbol-requires-clause-uses_room
-push_symbol-requires-clause-uses_room c = c.in_ok-reserve_symbol.ensures.uses_room
-
-pub invariant_of-self-in_err-insert : goal.invariant_of-self-in_err-insert
-invariant_of-self-in_err-insert c =
-    let room = c.reserve_symbol.ensures in
-    sound_same (record c.self.inside { names = c.intern.new.self }) _ (sound_interned c.self.inside c.self.invariant _ _ _ c.in_ok-number.ensures.ok) refl refl c.in_err-insert.ensures.err room.symbols refl (ap rows room.uses) refl
+    let told = c.in_ok-id.ensures in
+    rw (← c.self.view_is) (tables_bound c.self.inside c.self.invariant _ _ _ c.in_ok-number.ensures.ok c.args.bind_in within _ c.new-row.ensures _ told.bindings c.bind_row.new.symbols told.symbols c.bind_row.new.uses told.uses)
 
 pub returns-clause-made : goal.returns-clause-made
-returns-clause-made c = rw (← c.self.view_is) (omega (arith, c.new-id.ensures, c.len.ensures, c.self.inside.symbols.ok.0, length-map c.self.inside.symbols.items (symbol_of_row c.self.inside.names)))
+returns-clause-made c = rw (← c.self.view_is, length-map) c.in_ok-id.ensures.made

@@ -12,9 +12,9 @@ pub invariant_of-self : goal.invariant_of-self
 invariant_of-self c =
     let before = c.self.invariant in
     let within = uses_within c.self.inside before c.args.symbol (rw (← c.self.view_is) at c.requires) in
-    let changed = rows_changed c.self.inside.uses.items c.args.symbol c.index.result c.index_mut.result.now c.take_out.new.references c.index.ensures within c.index_mut.ensures.value (swap_remove_by (nat_eq c.args.reference)) c.take_out.ensures in
+    let changed = rows_changed c.self.inside.uses.items c.args.symbol c.index.result c.index_mut.result.now c.take_out_use.new.references c.index.ensures within c.index_mut.ensures.value (swap_remove_by (nat_eq c.args.reference)) c.take_out_use.ensures in
     let known : ℕ → Type 0 = λ r. r < length c.self.inside.references.items in
-    sound_uses c.self.inside before _ (length-set c.self.inside.uses.items c.index.result c.take_out.new.references)
+    sound_uses c.self.inside before _ (length-set c.self.inside.uses.items c.index.result c.take_out_use.new.references)
     (rw changed (every-set (AllByRecursion known) _ (rows c.self.inside.uses.items) c.args.symbol before.uses
     (every-swapped known (nat_eq c.args.reference) _ (every-or (AllByRecursion known) [] (rows c.self.inside.uses.items) c.args.symbol before.uses tt))))
 
@@ -23,7 +23,7 @@ returns c =
     let within = uses_within c.self.inside c.self.invariant c.args.symbol (rw (← c.self.view_is) at c.requires) in
     rw (← c.self.view_is)
     (tables_eq _ _ refl refl refl refl
-    (rows_changed c.self.inside.uses.items c.args.symbol c.index.result c.index_mut.result.now c.take_out.new.references c.index.ensures within c.index_mut.ensures.value (swap_remove_by (nat_eq c.args.reference)) c.take_out.ensures)
+    (rows_changed c.self.inside.uses.items c.args.symbol c.index.result c.index_mut.result.now c.take_out_use.new.references c.index.ensures within c.index_mut.ensures.value (swap_remove_by (nat_eq c.args.reference)) c.take_out_use.ensures)
     refl refl)
 
 pub index_mut-requires : goal.index_mut-requires

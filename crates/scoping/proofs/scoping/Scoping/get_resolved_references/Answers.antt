@@ -12,7 +12,7 @@ new-requires c =
     let list = subst (λ xs. AllByRecursion known xs)
     (row_at c.self.inside.uses.items c.args.symbol c.index.result c.index-2.result.now c.index-2.result.now c.index.ensures within c.index-2.ensures)
     (every-or (AllByRecursion known) [] (rows c.self.inside.uses.items) c.args.symbol c.self.invariant.uses tt) in
-    rw (c.as_slice.ensures.value, c.as_slice-2.ensures.value) list
+    rw (c.as_slice.ensures.value, c.as_slice-2.ensures) list
 
 pub index-requires-2 : goal.index-requires-2
 index-requires-2 c = uses_index c.self.inside c.self.invariant c.args.symbol c.index.result c.index.ensures (rw (← c.self.view_is) at c.requires)

@@ -11,4 +11,4 @@ pub returns-clause-references : goal.returns-clause-references
 returns-clause-references c = clones_same _ (λ x y h. h) c.args.references.now.items c.in_ok-clone-2.field-0.items c.in_ok-clone-2.ensures.cases.0
 
 pub returns-clause-uses : goal.returns-clause-uses
-returns-clause-uses c = clones_shown _ (λ v. v.items) (λ x y h. clones_same _ (λ n m e. e) x.items y.items h.0) c.args.uses.now.items c.in_ok-clone-3.field-0.items c.in_ok-clone-3.ensures.cases.0
+returns-clause-uses c = clones_shown _ (λ v. v.items) (λ x y h. clones_same _ (λ n m e. e) x.items y.items h) c.args.uses.now.items c.in_ok-clone-3.field-0.items c.in_ok-clone-3.ensures.cases.0

@@ -1,7 +1,7 @@
 use Rattle.std.proofs.Common.{length, ap, ◌∙◌, arith}
 use Rattle.scoping_rows.specs.Kept.{without_marked}
 use Rattle.scoping_rows.proofs.Sweeps.{swept_row, swept_rows}
-use Rattle.scoping_rows.proofs.kept.retain_unmarked_in_each.Goals as goal
+use Rattle.scoping_rows.proofs.use_list.retain_unmarked_in_each.Goals as goal
 
 pub loop-list-preserved : goal.loop-list-preserved
 loop-list-preserved c = swept_row (without_marked c.args.excluded.now) _ c.loop-list.list-items c.loop-list.list-index c.list-item.result c.retain_unmarked.new.list (omega arith) c.retain_unmarked.ensures c.loop-list.invariant

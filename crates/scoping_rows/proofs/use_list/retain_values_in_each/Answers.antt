@@ -1,10 +1,10 @@
 use Rattle.std.proofs.Common.{length, ap, ◌∙◌, arith}
 use Rattle.scoping_rows.specs.Kept.{without_type_uses}
 use Rattle.scoping_rows.proofs.Sweeps.{swept_row, swept_rows}
-use Rattle.scoping_rows.proofs.kept.retain_values_in_each.Goals as goal
+use Rattle.scoping_rows.proofs.use_list.retain_values_in_each.Goals as goal
 
 pub loop-list-preserved : goal.loop-list-preserved
-loop-list-preserved c = swept_row (without_type_uses c.args.references.now) _ c.loop-list.list-items c.loop-list.list-index c.list-item.result c.retain_values.new.list (omega arith) c.retain_values.ensures c.loop-list.invariant
+loop-list-preserved c = swept_row (without_type_uses c.args.references.now) _ c.loop-list.list-items c.loop-list.list-index c.list-item.result c.retain_value_uses.new.list (omega arith) c.retain_value_uses.ensures c.loop-list.invariant
 
 pub returns : goal.returns
 returns c =
