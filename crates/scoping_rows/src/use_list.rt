@@ -8,8 +8,8 @@ use crate::positions::position_of_reference;
 use semantic_syntax::{Reference, ReferenceId};
 use smallvec::SmallVec;
 
-/// The references that use a symbol, in order. Few symbols have more than three, so three need no memory of their own.
-pub type UseList = SmallVec<ReferenceId, 3>;
+/// The references that use a symbol, in order. Few symbols have more than four, so four need no memory of their own.
+pub type UseList = SmallVec<ReferenceId, 4>;
 
 /// Takes the reference out of the list. The last one takes its position.
 pub fn take_out_use(references: &mut UseList, reference: ReferenceId)
