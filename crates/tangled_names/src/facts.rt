@@ -1,8 +1,7 @@
 //! What is known of the names of a program: for which of them each reason holds.
 ghost use Rattle.std.specs.Prelude.{◌≡◌, ◌&&◌, ℕ, map, IfOk};
 ghost use Rattle.semantic_syntax.specs.Members.{contains};
-ghost use Rattle.semantic_syntax.specs.Reading.{scope_of};
-ghost use Rattle.semantic_syntax.specs.Tables.{Name, Symbol};
+ghost use Rattle.semantic_syntax.specs.Tables.{Name};
 ghost use Rattle.tangle_model.specs.Repeated.{is_mention_of, key_of, keys_of, key_stands};
 ghost use Rattle.tangle_model.specs.Tangled.{any_mention, any_symbol, is_seen_by_eval, is_merged_member, may_be_passed, is_shared, is_in_with, meets_declaration, meets_catch_name};
 ghost use Rattle.tangled_names.specs.Facts.{TypedHold};
@@ -12,10 +11,9 @@ ghost use Rattle.tangled_names.specs.Stored.{has_name, node_key, openers_by};
 use crate::key_set::KeySet;
 use crate::mention::{Mention, is_of};
 use crate::repeated::{noted_keys, repeated_keys, shared_names};
-use crate::scope_questions::{is_bound_by, is_seen_by_eval, may_be_passed};
+use crate::symbol_names::{Question, names_where};
 use crate::typed_facts::TypedFacts;
 use scoping::Scoping;
-use semantic_syntax::SymbolId;
 use std::alloc::{AllocError, Global};
 use tangle_model::What;
 
@@ -95,57 +93,6 @@ fn openers_among<'a>(
     Ok(openers)
 }
 
-/// The names of symbols that a direct call of `eval` may name.
-fn eval_names(alloc: Global, scoping: &Scoping) -> Result<KeySet<'_>, AllocError>
-    ensures { IfOk result (λ names. (name : Name)
-        → has_name names name ≡ any_symbol (is_seen_by_eval scoping.now) scoping.now.symbols name) }
-{
-    let mut names = KeySet::new(alloc);
-    let count = scoping.symbols_len() as u32;
-    for number in 0..count {
-        let symbol = SymbolId::new(number);
-        let is = is_seen_by_eval(scoping, symbol);
-        names.add_name_if(is, scoping.symbol_name(symbol))?;
-    }
-    Ok(names)
-}
-
-/// The names of symbols that a qualified name may pass by.
-fn passed_names(alloc: Global, scoping: &Scoping) -> Result<KeySet<'_>, AllocError>
-    ensures { IfOk result (λ names. (name : Name)
-        → has_name names name ≡ any_symbol may_be_passed scoping.now.symbols name) }
-{
-    let mut names = KeySet::new(alloc);
-    let count = scoping.symbols_len() as u32;
-    for number in 0..count {
-        let symbol = SymbolId::new(number);
-        let is = may_be_passed(scoping, symbol);
-        names.add_name_if(is, scoping.symbol_name(symbol))?;
-    }
-    Ok(names)
-}
-
-/// The names of symbols whose scopes the nodes open.
-fn member_names<'a>(
-    alloc: Global,
-    scoping: &'a Scoping,
-    openers: &KeySet<'_>,
-) -> Result<KeySet<'a>, AllocError>
-    ensures { IfOk result (λ names. (name : Name)
-        → has_name names name ≡ any_symbol
-        (λ (y : Symbol). key_stands (node_key (scope_of scoping.now y.scope).node) openers.now)
-        scoping.now.symbols name) }
-{
-    let mut names = KeySet::new(alloc);
-    let count = scoping.symbols_len() as u32;
-    for number in 0..count {
-        let symbol = SymbolId::new(number);
-        let is = is_bound_by(scoping, openers, symbol);
-        names.add_name_if(is, scoping.symbol_name(symbol))?;
-    }
-    Ok(names)
-}
-
 /// The names of block functions that meet another declaration.
 fn block_functions<'a>(alloc: Global, mentions: &[Mention<'a>]) -> Result<KeySet<'a>, AllocError>
     ensures { IfOk result (λ names. (name : Name)
@@ -185,7 +132,7 @@ fn merged_members<'a>(
 {
     let repeated = repeated_keys(alloc, mentions, What::Block)?;
     let openers = openers_among(alloc, mentions, &repeated)?;
-    let names = member_names(alloc, scoping, &openers)?;
+    let names = names_where(alloc, scoping, Question::BoundBy(&openers))?;
     Ok(names)
 }
 
@@ -224,9 +171,9 @@ impl<'a> NameFacts<'a> {
         let block_functions = block_functions(alloc, mentions)?;
         let catch_variables = met_names(alloc, mentions, What::VarInCatch, What::CatchName)?;
         let in_with = noted_names(alloc, mentions, What::InWith)?;
-        let seen_by_eval = eval_names(alloc, scoping)?;
+        let seen_by_eval = names_where(alloc, scoping, Question::SeenByEval)?;
         let merged = merged_members(alloc, mentions, scoping)?;
-        let passed = passed_names(alloc, scoping)?;
+        let passed = names_where(alloc, scoping, Question::Passed)?;
         let shared = shared_names(alloc, scoping)?;
         let typed = TypedFacts::of(alloc, mentions, scoping)?;
         Ok(NameFacts {
