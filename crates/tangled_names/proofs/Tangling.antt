@@ -8,9 +8,9 @@ use Rattle.semantic_syntax.specs.Tables.{Name, Tables}
 use Rattle.tangle_model.specs.Repeated.{Key}
 use Rattle.semantic_syntax.specs.declared.source_type.SourceType.{SourceType}
 use Rattle.tangle_model.specs.Mention.{Mention}
-use Rattle.tangle_model.specs.Tangled.{Tangle, told, tangles_from, tangles_in, all_reasons, any_mention, any_symbol, meets_declaration, meets_catch_name, is_in_with, is_seen_by_eval, is_merged_member, may_be_passed, is_shared}
+use Rattle.tangle_model.specs.Tangled.{Tangle, told, tangles_from, tangles_in, all_reasons}
 use Rattle.tangle_model.specs.declared.reason.Reason.TheVariants as reason
-use Rattle.tangled_names.specs.Facts.{FactsHold, TypedHold, facts_tell as told_by}
+use Rattle.tangled_names.specs.Facts.{FactsHold, NamesHold, facts_tell as told_by}
 use Rattle.tangled_names.specs.declared.facts.NameFacts.{NameFacts}
 use Rattle.tangle_model.specs.declared.reason.Reason.{Reason}
 use Rattle.tangled_names.specs.Found.{with_tangle}
@@ -85,25 +85,22 @@ module _ (t : Tables) (i : ℕ) (reasons : Name → List Reason) where
 -- ---- what is known of names
 
 module _ (f : NameFacts) (s : SourceType) (ms : List Mention) (t : Tables) where
-  pub told_same : ((x : Name) → has_name f.block_functions x ≡ any_mention (meets_declaration ms) ms x) → ((x : Name) → has_name f.catch_variables x ≡ any_mention (meets_catch_name ms) ms x)
-      → ((x : Name) → has_name f.in_with x ≡ any_mention is_in_with ms x) → ((x : Name) → has_name f.seen_by_eval x ≡ any_symbol (is_seen_by_eval t) t.symbols x)
-      → ((x : Name) → has_name f.merged x ≡ any_symbol (is_merged_member ms t) t.symbols x)
-      → ((x : Name) → has_name f.passed x ≡ any_symbol may_be_passed t.symbols x) → ((x : Name) → has_name f.shared x ≡ is_shared t.symbols x) → TypedHold f.typed ms t → FactsHold f s ms t
-  told_same a b c d e g h y reason.BlockFunction x = a x
-  told_same a b c d e g h y reason.CatchVariable x = b x
-  told_same a b c d e g h y reason.Arguments x = refl
-  told_same a b c d e g h y reason.With x = c x
-  told_same a b c d e g h y reason.Eval x = d x
-  told_same a b c d e g h y reason.FreeNamesake x = refl
-  told_same a b c d e g h y reason.MergedMember x = e x
-  told_same a b c d e g h y reason.NamespaceNamesake x = λ i. is_typescript s && g x i && h x i
-  told_same a b c d e g h y reason.InferredName x = λ i. is_typescript s && y.met.beside_infer x i
-  told_same a b c d e g h y reason.HiddenParameter x = λ i. is_typescript s && y.noted.in_type_parameters x i && y.symbols.inner_variables x i
-  told_same a b c d e g h y reason.IndexParameter x = λ i. is_typescript s && y.met.in_own_index x i
-  told_same a b c d e g h y reason.SloppyFunction x = λ i. is_typescript s && y.noted.inner_functions x i && h x i
-  told_same a b c d e g h y reason.ExportedType x = λ i. is_typescript s && y.noted.exported_types x i && h x i
-  told_same a b c d e g h y reason.TypedVariable x = λ i. is_typescript s && y.noted.passing_variables x i && y.symbols.typed_variables x i
-  told_same a b c d e g h y reason.TypedFunctionName x = λ i. is_typescript s && y.symbols.own_names x i && y.symbols.types x i
+  pub told_same : NamesHold f ms t → FactsHold f s ms t
+  told_same y reason.BlockFunction x = y.places.block_functions x
+  told_same y reason.CatchVariable x = y.places.catch_variables x
+  told_same y reason.Arguments x = refl
+  told_same y reason.With x = y.places.in_with x
+  told_same y reason.Eval x = y.scopes.seen_by_eval x
+  told_same y reason.FreeNamesake x = refl
+  told_same y reason.MergedMember x = y.scopes.merged x
+  told_same y reason.NamespaceNamesake x = λ i. is_typescript s && y.namesakes.passed x i && y.namesakes.shared x i
+  told_same y reason.InferredName x = λ i. is_typescript s && y.typed.met.beside_infer x i
+  told_same y reason.HiddenParameter x = λ i. is_typescript s && y.typed.noted.in_type_parameters x i && y.typed.symbols.inner_variables x i
+  told_same y reason.IndexParameter x = λ i. is_typescript s && y.typed.met.in_own_index x i
+  told_same y reason.SloppyFunction x = λ i. is_typescript s && y.typed.noted.inner_functions x i && y.namesakes.shared x i
+  told_same y reason.ExportedType x = λ i. is_typescript s && y.typed.noted.exported_types x i && y.namesakes.shared x i
+  told_same y reason.TypedVariable x = λ i. is_typescript s && y.typed.noted.passing_variables x i && y.typed.symbols.typed_variables x i
+  told_same y reason.TypedFunctionName x = λ i. is_typescript s && y.typed.symbols.own_names x i && y.typed.symbols.types x i
 
   pub found_same : FactsHold f s ms t → tangles_from (λ (x : Name). filter (λ (r : Reason). told_by f s t r x) all_reasons) (λ x. false) 0 t.symbols ≡ tangles_in s ms t
   found_same tells = λ i. tangles_from (λ (x : Name). filter (λ (r : Reason). tells r x i) all_reasons) (λ x. false) 0 t.symbols

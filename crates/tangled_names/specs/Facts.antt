@@ -7,12 +7,15 @@ use Rattle.semantic_syntax.specs.Tables.{Name, Tables}
 use Rattle.semantic_syntax.specs.declared.source_type.SourceType.{SourceType}
 use Rattle.semantic_syntax.specs.declared.symbol_flags.TheConstants.SymbolFlags as symbol
 use Rattle.tangle_model.specs.Mention.{Mention}
-use Rattle.tangle_model.specs.Tangled.{holds_in, is_noted_as, any_mention, any_symbol, is_beside_infer, is_in_own_index, is_inner_variable, is_typed_variable, is_flagged}
+use Rattle.tangle_model.specs.Tangled.{holds_in, is_noted_as, any_mention, any_symbol, meets_declaration, meets_catch_name, is_in_with, is_seen_by_eval, is_merged_member, may_be_passed, is_shared, is_beside_infer, is_in_own_index, is_inner_variable, is_typed_variable, is_flagged}
 use Rattle.tangle_model.specs.declared.reason.Reason.{Reason}
 use Rattle.tangle_model.specs.declared.reason.Reason.TheVariants as reason
 use Rattle.tangle_model.specs.declared.what.What.TheVariants as what
 use Rattle.tangled_names.specs.Stored.{has_name}
 use Rattle.tangled_names.specs.declared.facts.NameFacts.{NameFacts}
+use Rattle.tangled_names.specs.declared.facts.NamesakeFacts.{NamesakeFacts}
+use Rattle.tangled_names.specs.declared.facts.PlaceFacts.{PlaceFacts}
+use Rattle.tangled_names.specs.declared.facts.ScopeFacts.{ScopeFacts}
 use Rattle.tangled_names.specs.declared.typed_facts.MetFacts.{MetFacts}
 use Rattle.tangled_names.specs.declared.typed_facts.NotedFacts.{NotedFacts}
 use Rattle.tangled_names.specs.declared.typed_facts.SymbolFacts.{SymbolFacts}
@@ -20,19 +23,19 @@ use Rattle.tangled_names.specs.declared.typed_facts.TypedFacts.{TypedFacts}
 
 -- what the sets tell of a name, in a source of the type with these tables
 abbrev pub facts_tell : NameFacts → SourceType → Tables → Reason → Name → Bool
-facts_tell f s t reason.BlockFunction name = has_name f.block_functions name
-facts_tell f s t reason.CatchVariable name = has_name f.catch_variables name
+facts_tell f s t reason.BlockFunction name = has_name f.places.block_functions name
+facts_tell f s t reason.CatchVariable name = has_name f.places.catch_variables name
 facts_tell f s t reason.Arguments name = bytes_eq name (codes "arguments")
-facts_tell f s t reason.With name = has_name f.in_with name
-facts_tell f s t reason.Eval name = has_name f.seen_by_eval name
+facts_tell f s t reason.With name = has_name f.places.in_with name
+facts_tell f s t reason.Eval name = has_name f.scopes.seen_by_eval name
 facts_tell f s t reason.FreeNamesake name = is_typescript s && is_some (lookup (bytes_eq name) t.free)
-facts_tell f s t reason.MergedMember name = has_name f.merged name
-facts_tell f s t reason.NamespaceNamesake name = is_typescript s && has_name f.passed name && has_name f.shared name
+facts_tell f s t reason.MergedMember name = has_name f.scopes.merged name
+facts_tell f s t reason.NamespaceNamesake name = is_typescript s && has_name f.namesakes.passed name && has_name f.namesakes.shared name
 facts_tell f s t reason.InferredName name = is_typescript s && has_name f.typed.met.beside_infer name
 facts_tell f s t reason.HiddenParameter name = is_typescript s && has_name f.typed.noted.in_type_parameters name && has_name f.typed.symbols.inner_variables name
 facts_tell f s t reason.IndexParameter name = is_typescript s && has_name f.typed.met.in_own_index name
-facts_tell f s t reason.SloppyFunction name = is_typescript s && has_name f.typed.noted.inner_functions name && has_name f.shared name
-facts_tell f s t reason.ExportedType name = is_typescript s && has_name f.typed.noted.exported_types name && has_name f.shared name
+facts_tell f s t reason.SloppyFunction name = is_typescript s && has_name f.typed.noted.inner_functions name && has_name f.namesakes.shared name
+facts_tell f s t reason.ExportedType name = is_typescript s && has_name f.typed.noted.exported_types name && has_name f.namesakes.shared name
 facts_tell f s t reason.TypedVariable name = is_typescript s && has_name f.typed.noted.passing_variables name && has_name f.typed.symbols.typed_variables name
 facts_tell f s t reason.TypedFunctionName name = is_typescript s && has_name f.typed.symbols.own_names name && has_name f.typed.symbols.types name
 
@@ -57,6 +60,26 @@ pub record TypedHold (f : TypedFacts) (ms : List Mention) (t : Tables) : Type 0 
   pub met : MetHold f.met ms
   pub noted : NotedHold f.noted ms
   pub symbols : SymbolsHold f.symbols t
+
+-- and so is what is known of the others
+pub record PlacesHold (f : PlaceFacts) (ms : List Mention) : Type 0 where
+  pub block_functions : (x : Name) → has_name f.block_functions x ≡ any_mention (meets_declaration ms) ms x
+  pub catch_variables : (x : Name) → has_name f.catch_variables x ≡ any_mention (meets_catch_name ms) ms x
+  pub in_with : (x : Name) → has_name f.in_with x ≡ any_mention is_in_with ms x
+
+pub record ScopesHold (f : ScopeFacts) (ms : List Mention) (t : Tables) : Type 0 where
+  pub seen_by_eval : (x : Name) → has_name f.seen_by_eval x ≡ any_symbol (is_seen_by_eval t) t.symbols x
+  pub merged : (x : Name) → has_name f.merged x ≡ any_symbol (is_merged_member ms t) t.symbols x
+
+pub record NamesakesHold (f : NamesakeFacts) (t : Tables) : Type 0 where
+  pub passed : (x : Name) → has_name f.passed x ≡ any_symbol may_be_passed t.symbols x
+  pub shared : (x : Name) → has_name f.shared x ≡ is_shared t.symbols x
+
+pub record NamesHold (f : NameFacts) (ms : List Mention) (t : Tables) : Type 0 where
+  pub places : PlacesHold f.places ms
+  pub scopes : ScopesHold f.scopes ms t
+  pub namesakes : NamesakesHold f.namesakes t
+  pub typed : TypedHold f.typed ms t
 
 -- they tell what holds
 abbrev pub FactsHold : NameFacts → SourceType → List Mention → Tables → Type 0

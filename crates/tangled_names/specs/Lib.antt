@@ -1,4 +1,5 @@
 pub mod Gathered
 pub mod Stored
+pub mod Asked
 pub mod Facts
 pub mod Found

@@ -1,34 +1,50 @@
 //! What is known of the names of a program: for which of them each reason holds.
 ghost use Rattle.std.specs.Prelude.{◌≡◌, ◌&&◌, ℕ, map, IfOk};
 ghost use Rattle.semantic_syntax.specs.Members.{contains};
-ghost use Rattle.semantic_syntax.specs.Reading.{scope_of};
-ghost use Rattle.semantic_syntax.specs.Tables.{Name, Symbol};
+ghost use Rattle.semantic_syntax.specs.Tables.{Name};
 ghost use Rattle.tangle_model.specs.Repeated.{is_mention_of, key_of, keys_of, key_stands};
-ghost use Rattle.tangle_model.specs.Tangled.{any_mention, any_symbol, is_seen_by_eval, is_merged_member, may_be_passed, is_shared, is_in_with, meets_declaration, meets_catch_name};
-ghost use Rattle.tangled_names.specs.Facts.{TypedHold};
+ghost use Rattle.tangle_model.specs.Tangled.{any_mention, any_symbol, is_merged_member, meets_declaration};
+ghost use Rattle.tangled_names.specs.Facts.{NamesHold, NamesakesHold, PlacesHold, ScopesHold};
 ghost use Rattle.tangled_names.specs.Gathered.{noted_of};
 ghost use Rattle.tangled_names.specs.Stored.{has_name, node_key, openers_by};
 
 use crate::key_set::KeySet;
 use crate::mention::{Mention, is_of};
 use crate::repeated::{noted_keys, repeated_keys, shared_names};
-use crate::scope_questions::{is_bound_by, is_seen_by_eval, may_be_passed};
+use crate::symbol_names::{Question, names_where};
 use crate::typed_facts::TypedFacts;
 use scoping::Scoping;
-use semantic_syntax::SymbolId;
 use std::alloc::{AllocError, Global};
 use tangle_model::What;
+
+/// The names in places where tables and language may part.
+#[derive(Drop)]
+pub struct PlaceFacts<'a> {
+    pub(crate) block_functions: KeySet<'a>,
+    pub(crate) catch_variables: KeySet<'a>,
+    pub(crate) in_with: KeySet<'a>,
+}
+
+/// The names in scopes where tables and language may part.
+#[derive(Drop)]
+pub struct ScopeFacts<'a> {
+    pub(crate) seen_by_eval: KeySet<'a>,
+    pub(crate) merged: KeySet<'a>,
+}
+
+/// The names by which another symbol may be meant.
+#[derive(Drop)]
+pub struct NamesakeFacts<'a> {
+    pub(crate) passed: KeySet<'a>,
+    pub(crate) shared: KeySet<'a>,
+}
 
 /// The names for which each reason holds that is not seen from a name alone.
 #[derive(Drop)]
 pub struct NameFacts<'a> {
-    pub(crate) block_functions: KeySet<'a>,
-    pub(crate) catch_variables: KeySet<'a>,
-    pub(crate) in_with: KeySet<'a>,
-    pub(crate) seen_by_eval: KeySet<'a>,
-    pub(crate) merged: KeySet<'a>,
-    pub(crate) passed: KeySet<'a>,
-    pub(crate) shared: KeySet<'a>,
+    pub(crate) places: PlaceFacts<'a>,
+    pub(crate) scopes: ScopeFacts<'a>,
+    pub(crate) namesakes: NamesakeFacts<'a>,
     pub(crate) typed: TypedFacts<'a>,
 }
 
@@ -95,57 +111,6 @@ fn openers_among<'a>(
     Ok(openers)
 }
 
-/// The names of symbols that a direct call of `eval` may name.
-fn eval_names(alloc: Global, scoping: &Scoping) -> Result<KeySet<'_>, AllocError>
-    ensures { IfOk result (λ names. (name : Name)
-        → has_name names name ≡ any_symbol (is_seen_by_eval scoping.now) scoping.now.symbols name) }
-{
-    let mut names = KeySet::new(alloc);
-    let count = scoping.symbols_len() as u32;
-    for number in 0..count {
-        let symbol = SymbolId::new(number);
-        let is = is_seen_by_eval(scoping, symbol);
-        names.add_name_if(is, scoping.symbol_name(symbol))?;
-    }
-    Ok(names)
-}
-
-/// The names of symbols that a qualified name may pass by.
-fn passed_names(alloc: Global, scoping: &Scoping) -> Result<KeySet<'_>, AllocError>
-    ensures { IfOk result (λ names. (name : Name)
-        → has_name names name ≡ any_symbol may_be_passed scoping.now.symbols name) }
-{
-    let mut names = KeySet::new(alloc);
-    let count = scoping.symbols_len() as u32;
-    for number in 0..count {
-        let symbol = SymbolId::new(number);
-        let is = may_be_passed(scoping, symbol);
-        names.add_name_if(is, scoping.symbol_name(symbol))?;
-    }
-    Ok(names)
-}
-
-/// The names of symbols whose scopes the nodes open.
-fn member_names<'a>(
-    alloc: Global,
-    scoping: &'a Scoping,
-    openers: &KeySet<'_>,
-) -> Result<KeySet<'a>, AllocError>
-    ensures { IfOk result (λ names. (name : Name)
-        → has_name names name ≡ any_symbol
-        (λ (y : Symbol). key_stands (node_key (scope_of scoping.now y.scope).node) openers.now)
-        scoping.now.symbols name) }
-{
-    let mut names = KeySet::new(alloc);
-    let count = scoping.symbols_len() as u32;
-    for number in 0..count {
-        let symbol = SymbolId::new(number);
-        let is = is_bound_by(scoping, openers, symbol);
-        names.add_name_if(is, scoping.symbol_name(symbol))?;
-    }
-    Ok(names)
-}
-
 /// The names of block functions that meet another declaration.
 fn block_functions<'a>(alloc: Global, mentions: &[Mention<'a>]) -> Result<KeySet<'a>, AllocError>
     ensures { IfOk result (λ names. (name : Name)
@@ -185,8 +150,54 @@ fn merged_members<'a>(
 {
     let repeated = repeated_keys(alloc, mentions, What::Block)?;
     let openers = openers_among(alloc, mentions, &repeated)?;
-    let names = member_names(alloc, scoping, &openers)?;
+    let names = names_where(alloc, scoping, Question::BoundBy(&openers))?;
     Ok(names)
+}
+
+impl<'a> PlaceFacts<'a> {
+    /// The names in such places, where this is noted in a program. The only error is want of memory.
+    fn of(alloc: Global, mentions: &[Mention<'a>]) -> Result<PlaceFacts<'a>, AllocError>
+        ensures { IfOk result (λ f. PlacesHold f (map noted_of mentions.now)) }
+    {
+        let block_functions = block_functions(alloc, mentions)?;
+        let catch_variables = met_names(alloc, mentions, What::VarInCatch, What::CatchName)?;
+        let in_with = noted_names(alloc, mentions, What::InWith)?;
+        Ok(PlaceFacts {
+            block_functions,
+            catch_variables,
+            in_with,
+        })
+    }
+}
+
+impl<'a> ScopeFacts<'a> {
+    /// The names in such scopes, where this is noted in a program and these are its tables. The only error is want of
+    /// memory.
+    fn of(
+        alloc: Global,
+        mentions: &[Mention<'a>],
+        scoping: &'a Scoping,
+    ) -> Result<ScopeFacts<'a>, AllocError>
+        ensures { IfOk result (λ f. ScopesHold f (map noted_of mentions.now) scoping.now) }
+    {
+        let seen_by_eval = names_where(alloc, scoping, Question::SeenByEval)?;
+        let merged = merged_members(alloc, mentions, scoping)?;
+        Ok(ScopeFacts {
+            seen_by_eval,
+            merged,
+        })
+    }
+}
+
+impl<'a> NamesakeFacts<'a> {
+    /// Those names in these tables. The only error is want of memory.
+    fn of(alloc: Global, scoping: &'a Scoping) -> Result<NamesakeFacts<'a>, AllocError>
+        ensures { IfOk result (λ f. NamesakesHold f scoping.now) }
+    {
+        let passed = names_where(alloc, scoping, Question::Passed)?;
+        let shared = shared_names(alloc, scoping)?;
+        Ok(NamesakeFacts { passed, shared })
+    }
 }
 
 impl<'a> NameFacts<'a> {
@@ -197,46 +208,16 @@ impl<'a> NameFacts<'a> {
         mentions: &[Mention<'a>],
         scoping: &'a Scoping,
     ) -> Result<NameFacts<'a>, AllocError>
-        ensures block_functions { IfOk result (λ f. (name : Name)
-            → has_name f.block_functions name
-            ≡ any_mention (meets_declaration (map noted_of mentions.now))
-            (map noted_of mentions.now) name) }
-        ensures catch_variables { IfOk result (λ f. (name : Name)
-            → has_name f.catch_variables name
-            ≡ any_mention (meets_catch_name (map noted_of mentions.now))
-            (map noted_of mentions.now) name) }
-        ensures in_with { IfOk result (λ f. (name : Name)
-            → has_name f.in_with name ≡ any_mention is_in_with (map noted_of mentions.now) name) }
-        ensures seen_by_eval { IfOk result (λ f. (name : Name)
-            → has_name f.seen_by_eval name
-            ≡ any_symbol (is_seen_by_eval scoping.now) scoping.now.symbols name) }
-        ensures merged { IfOk result (λ f. (name : Name)
-            → has_name f.merged name
-            ≡ any_symbol (is_merged_member (map noted_of mentions.now) scoping.now)
-            scoping.now.symbols name) }
-        ensures passed { IfOk result (λ f. (name : Name)
-            → has_name f.passed name ≡ any_symbol may_be_passed scoping.now.symbols name) }
-        ensures shared { IfOk result (λ f. (name : Name)
-            → has_name f.shared name ≡ is_shared scoping.now.symbols name) }
-        ensures typed { IfOk result (λ f.
-            TypedHold f.typed (map noted_of mentions.now) scoping.now) }
+        ensures { IfOk result (λ f. NamesHold f (map noted_of mentions.now) scoping.now) }
     {
-        let block_functions = block_functions(alloc, mentions)?;
-        let catch_variables = met_names(alloc, mentions, What::VarInCatch, What::CatchName)?;
-        let in_with = noted_names(alloc, mentions, What::InWith)?;
-        let seen_by_eval = eval_names(alloc, scoping)?;
-        let merged = merged_members(alloc, mentions, scoping)?;
-        let passed = passed_names(alloc, scoping)?;
-        let shared = shared_names(alloc, scoping)?;
+        let places = PlaceFacts::of(alloc, mentions)?;
+        let scopes = ScopeFacts::of(alloc, mentions, scoping)?;
+        let namesakes = NamesakeFacts::of(alloc, scoping)?;
         let typed = TypedFacts::of(alloc, mentions, scoping)?;
         Ok(NameFacts {
-            block_functions,
-            catch_variables,
-            in_with,
-            seen_by_eval,
-            merged,
-            passed,
-            shared,
+            places,
+            scopes,
+            namesakes,
             typed,
         })
     }

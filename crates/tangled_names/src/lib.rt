@@ -8,6 +8,7 @@ mod pass;
 mod repeated;
 mod scope_questions;
 mod surroundings;
+mod symbol_names;
 mod tangles;
 mod typed_facts;
 

@@ -83,11 +83,11 @@ fn holds(
 {
     let is_typed = source_type.is_typescript();
     match reason {
-        Reason::BlockFunction => facts.block_functions.has_name(name),
-        Reason::CatchVariable => facts.catch_variables.has_name(name),
+        Reason::BlockFunction => facts.places.block_functions.has_name(name),
+        Reason::CatchVariable => facts.places.catch_variables.has_name(name),
         Reason::Arguments => is_word(name, "arguments"),
-        Reason::With => facts.in_with.has_name(name),
-        Reason::Eval => facts.seen_by_eval.has_name(name),
+        Reason::With => facts.places.in_with.has_name(name),
+        Reason::Eval => facts.scopes.seen_by_eval.has_name(name),
         Reason::FreeNamesake => {
             is_typed
                 && scoping
@@ -95,9 +95,11 @@ fn holds(
                     .get(Ident::new(name))
                     .is_some()
         }
-        Reason::MergedMember => facts.merged.has_name(name),
+        Reason::MergedMember => facts.scopes.merged.has_name(name),
         Reason::NamespaceNamesake => {
-            is_typed && facts.passed.has_name(name) && facts.shared.has_name(name)
+            is_typed
+                && facts.namesakes.passed.has_name(name)
+                && facts.namesakes.shared.has_name(name)
         }
         Reason::InferredName => is_typed && facts.typed.met.beside_infer.has_name(name),
         Reason::HiddenParameter => {
@@ -109,12 +111,12 @@ fn holds(
         Reason::SloppyFunction => {
             is_typed
                 && facts.typed.noted.inner_functions.has_name(name)
-                && facts.shared.has_name(name)
+                && facts.namesakes.shared.has_name(name)
         }
         Reason::ExportedType => {
             is_typed
                 && facts.typed.noted.exported_types.has_name(name)
-                && facts.shared.has_name(name)
+                && facts.namesakes.shared.has_name(name)
         }
         Reason::TypedVariable => {
             is_typed

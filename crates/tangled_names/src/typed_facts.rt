@@ -1,17 +1,14 @@
 //! What is known of the names of a program of TypeScript beyond.
-ghost use Rattle.std.specs.Prelude.{◌≡◌, map, IfOk};
-ghost use Rattle.semantic_syntax.specs.Tables.{Name};
-ghost use Rattle.tangle_model.specs.Tangled.{any_symbol, is_flagged, is_inner_variable, is_typed_variable};
+ghost use Rattle.std.specs.Prelude.{map, IfOk};
 ghost use Rattle.tangled_names.specs.Facts.{MetHold, NotedHold, SymbolsHold, TypedHold};
 ghost use Rattle.tangled_names.specs.Gathered.{noted_of};
-ghost use Rattle.tangled_names.specs.Stored.{has_name};
 
 use crate::facts::{met_names, noted_names};
 use crate::key_set::KeySet;
 use crate::mention::Mention;
-use crate::scope_questions::{is_flagged, is_inner_variable, is_typed_variable};
+use crate::symbol_names::{Question, names_where};
 use scoping::Scoping;
-use semantic_syntax::{SymbolFlags, SymbolId};
+use semantic_syntax::SymbolFlags;
 use std::alloc::{AllocError, Global};
 use tangle_model::What;
 
@@ -46,55 +43,6 @@ pub struct TypedFacts<'a> {
     pub(crate) met: MetFacts<'a>,
     pub(crate) noted: NotedFacts<'a>,
     pub(crate) symbols: SymbolFacts<'a>,
-}
-
-/// The names of parameters, and of variables in scopes that aren't the root.
-fn inner_variables(alloc: Global, scoping: &Scoping) -> Result<KeySet<'_>, AllocError>
-    ensures { IfOk result (λ names. (name : Name)
-        → has_name names name ≡ any_symbol is_inner_variable scoping.now.symbols name) }
-{
-    let mut names = KeySet::new(alloc);
-    let count = scoping.symbols_len() as u32;
-    for number in 0..count {
-        let symbol = SymbolId::new(number);
-        let is = is_inner_variable(scoping, symbol);
-        names.add_name_if(is, scoping.symbol_name(symbol))?;
-    }
-    Ok(names)
-}
-
-/// The names of variables and parameters that are types as well.
-fn typed_variables(alloc: Global, scoping: &Scoping) -> Result<KeySet<'_>, AllocError>
-    ensures { IfOk result (λ names. (name : Name)
-        → has_name names name ≡ any_symbol is_typed_variable scoping.now.symbols name) }
-{
-    let mut names = KeySet::new(alloc);
-    let count = scoping.symbols_len() as u32;
-    for number in 0..count {
-        let symbol = SymbolId::new(number);
-        let is = is_typed_variable(scoping, symbol);
-        names.add_name_if(is, scoping.symbol_name(symbol))?;
-    }
-    Ok(names)
-}
-
-/// The names of symbols with one of the flags.
-fn flagged_names(
-    alloc: Global,
-    scoping: &Scoping,
-    flags: SymbolFlags,
-) -> Result<KeySet<'_>, AllocError>
-    ensures { IfOk result (λ names. (name : Name)
-        → has_name names name ≡ any_symbol (is_flagged flags.bits) scoping.now.symbols name) }
-{
-    let mut names = KeySet::new(alloc);
-    let count = scoping.symbols_len() as u32;
-    for number in 0..count {
-        let symbol = SymbolId::new(number);
-        let is = is_flagged(scoping, symbol, flags);
-        names.add_name_if(is, scoping.symbol_name(symbol))?;
-    }
-    Ok(names)
 }
 
 impl<'a> MetFacts<'a> {
@@ -139,10 +87,14 @@ impl<'a> SymbolFacts<'a> {
     fn of(alloc: Global, scoping: &'a Scoping) -> Result<SymbolFacts<'a>, AllocError>
         ensures { IfOk result (λ f. SymbolsHold f scoping.now) }
     {
-        let inner_variables = inner_variables(alloc, scoping)?;
-        let typed_variables = typed_variables(alloc, scoping)?;
-        let own_names = flagged_names(alloc, scoping, SymbolFlags::FunctionExpression)?;
-        let types = flagged_names(alloc, scoping, SymbolFlags::TypeFlag)?;
+        let inner_variables = names_where(alloc, scoping, Question::InnerVariable)?;
+        let typed_variables = names_where(alloc, scoping, Question::TypedVariable)?;
+        let own_names = names_where(
+            alloc,
+            scoping,
+            Question::Flagged(SymbolFlags::FunctionExpression),
+        )?;
+        let types = names_where(alloc, scoping, Question::Flagged(SymbolFlags::TypeFlag))?;
         Ok(SymbolFacts {
             inner_variables,
             typed_variables,

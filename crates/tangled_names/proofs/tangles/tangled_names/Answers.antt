@@ -6,8 +6,7 @@ use Rattle.tangled_names.proofs.tangles.tangled_names.Goals as goal
 pub returns : goal.returns
 returns c =
     let ms = map noted_of c.as_slice.result.now in
-    let f = c.in_ok-facts.ensures in
     if_ok_same c.tangles_by.result _ _
-    (found_same c.in_ok-facts.facts c.source_type.result ms c.args.scoping.now (told_same c.in_ok-facts.facts c.source_type.result ms c.args.scoping.now f.block_functions f.catch_variables f.in_with f.seen_by_eval f.merged f.passed f.shared f.typed)
+    (found_same c.in_ok-facts.facts c.source_type.result ms c.args.scoping.now (told_same c.in_ok-facts.facts c.source_type.result ms c.args.scoping.now c.in_ok-facts.ensures)
     ∙ all_same _ _ _ _ _ _ c.source_type.ensures (c.as_slice.ensures ∙ c.in_ok-pass.ensures) c.requires)
     c.tangles_by.ensures
