@@ -17,12 +17,14 @@ function wordsOf(text) {
 }
 
 const ZERO = 0x30;
+const COMMA = 0x2c;
 
-// The digits of a number below a thousand, as a word of four bytes whose last ones are of no account: just its own, or all three.
+// The digits of a number below a thousand and a comma, as a word of four bytes whose last ones are of no account: just its own digits, or
+// all three.
 function digitsOf(value, isPadded) {
   const [hundreds, tens, ones] = [(value / 100) | 0, ((value / 10) | 0) % 10, value % 10].map((digit) => ZERO + digit);
-  if (isPadded || value >= 100) return hundreds | (tens << 8) | (ones << 16);
-  return value >= 10 ? tens | (ones << 8) : ones;
+  if (isPadded || value >= 100) return hundreds | (tens << 8) | (ones << 16) | (COMMA << 24);
+  return value >= 10 ? tens | (ones << 8) | (COMMA << 16) : ones | (COMMA << 8);
 }
 
 const SHORT = Int32Array.from({ length: THOUSAND }, (_, value) => digitsOf(value, false));
@@ -40,14 +42,14 @@ function putPadded(view, at, value) {
   return at + 3;
 }
 
-// A number below a milliard.
+// A number below a milliard, and a comma.
 function putNumber(view, at, value) {
-  if (value < THOUSAND) return putShort(view, at, value);
+  if (value < THOUSAND) return putShort(view, at, value) + 1;
   const thousands = (value / THOUSAND) | 0;
   const rest = value - thousands * THOUSAND;
-  if (thousands < THOUSAND) return putPadded(view, putShort(view, at, thousands), rest);
+  if (thousands < THOUSAND) return putPadded(view, putShort(view, at, thousands), rest) + 1;
   const millions = (thousands / THOUSAND) | 0;
-  return putPadded(view, putPadded(view, putShort(view, at, millions), thousands - millions * THOUSAND), rest);
+  return putPadded(view, putPadded(view, putShort(view, at, millions), thousands - millions * THOUSAND), rest) + 1;
 }
 
 class Bytes {

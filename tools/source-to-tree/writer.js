@@ -3,6 +3,7 @@
 
 const { Refusal } = require('./refusal');
 const { Bytes, WORD, putNumber, wordsOf } = require('./bytes');
+const { copyEscaped } = require('./escapes');
 const { firstPlace } = require('./row-places');
 
 const DEEPEST = 1000;
@@ -22,7 +23,6 @@ const MODULE_STATEMENTS = new Set(['ImportDeclaration', 'ExportDeclaration', 'Ex
 const FUNCTIONS = new Set(['Function', 'ArrowFunctionExpression']);
 
 const QUOTE = 0x22;
-const COMMA = 0x2c;
 const BACKSLASH = 0x5c;
 const SPACE = 0x20;
 const LAST_OF_ASCII = 0x7f;
@@ -74,7 +74,7 @@ function kindOf(name) {
 }
 
 // The end of a row, from behind its text on, for each mark alone and for none.
-const BARE_END = wordsOf(',"",[]]'); // where there is no text either
+const BARE_END = wordsOf('"",[]]'); // where there is no text either
 const NO_MARK_END = wordsOf(',[]]');
 const ENDS = new Map(MARKS.map((mark) => [mark, wordsOf(`,["${mark}"]]`)]));
 
@@ -95,9 +95,20 @@ function grown(places) {
 const ROW_ROOM = 512; // for a row without its text: no role, kind or list of marks is half as long
 const BYTES_PER_UNIT = 9; // of a tree, by its source: more than most have
 
+const HEAD = 128; // bytes of a tree before its rows, without the comments
+const COMMENT = 32; // bytes of a comment
+const FIRST_COMMENT = wordsOf('[');
+const NEXT_COMMENT = wordsOf(',[');
+const BLOCK = wordsOf('"block"]');
+const LINE = wordsOf('"line"]');
+
+const MARK = '\ufeff';
+const NO_CHARACTER = Buffer.from('\ufffd'); // stands for the half of a character, too
+
 class TreeWriter {
-  // gap is how many bytes the comments may take
-  constructor(offsets, lang, gap) {
+  // There is room for so many comments.
+  constructor(offsets, lang, comments) {
+    const gap = HEAD + COMMENT * comments;
     this.offsets = offsets;
     this.isTyped = lang !== 'js' && lang !== 'jsx';
     this.start = gap;
@@ -148,8 +159,7 @@ class TreeWriter {
     at += begin.length;
     for (let i = 0, to = at; i < head.words.length; i++, to += WORD) view.setFloat64(to, head.words[i], true);
     at = putNumber(view, at + head.length, offsets.at(start));
-    view.setUint8(at, COMMA);
-    at = putNumber(view, at + 1, offsets.at(end));
+    at = putNumber(view, at, offsets.at(end));
     if (text !== '' || marks.length > 0) {
       this.finishRow(at, text, marks);
     } else {
@@ -164,9 +174,8 @@ class TreeWriter {
   finishRow(from, text, marks) {
     const { bytes } = this;
     const { view } = bytes;
-    view.setUint8(from, COMMA);
-    view.setUint8(from + 1, QUOTE);
-    let at = from + 2;
+    view.setUint8(from, QUOTE);
+    let at = from + 1;
     for (let i = 0; i < text.length; i++, at++) {
       const unit = text.charCodeAt(i);
       if (unit < SPACE || unit > LAST_OF_ASCII || unit === QUOTE || unit === BACKSLASH) return this.finishEscaped(from, text, marks);
@@ -179,7 +188,7 @@ class TreeWriter {
 
   finishEscaped(from, text, marks) {
     const { bytes } = this;
-    bytes.end = from + 1;
+    bytes.end = from;
     bytes.string(JSON.stringify(text));
     bytes.reserve(ROW_ROOM);
     bytes.copy(marks.length === 0 ? NO_MARK_END : endFor(marks));
@@ -206,15 +215,46 @@ class TreeWriter {
     return places;
   }
 
+  // What stands before the rows.
+  headOf({ goal, lang, comments }) {
+    const { offsets } = this;
+    const head = new Bytes(HEAD + COMMENT * comments.length);
+    head.ascii('{"comments":[');
+    for (let i = 0; i < comments.length; i++) {
+      const { block, start, end } = comments[i];
+      head.reserve(COMMENT);
+      head.copy(i === 0 ? FIRST_COMMENT : NEXT_COMMENT);
+      head.end = putNumber(head.view, putNumber(head.view, head.end, offsets.at(start)), offsets.at(end));
+      head.copy(block ? BLOCK : LINE);
+    }
+    head.ascii(`],"format":1,"goal":"${goal}","lang":"${lang}","rows":[`);
+    return head.buffer.subarray(0, head.end);
+  }
+
+  // The source as a string. The bytes of its text have it all but for a mark before it, unless they lack the half of a character.
+  putSource(source) {
+    const { bytes, offsets } = this;
+    const { bytes: text } = offsets;
+    if (offsets.blocks !== null && text.includes(NO_CHARACTER)) return bytes.string(JSON.stringify(source));
+    bytes.ascii('"');
+    if (offsets.shift > 0) bytes.string(MARK);
+    bytes.reserve(2 * text.length + WORD);
+    const end = copyEscaped(text, bytes.view, bytes.end);
+    if (end === -1) {
+      bytes.string(JSON.stringify(offsets.text).slice(1));
+    } else {
+      bytes.end = end;
+      bytes.ascii('"');
+    }
+  }
+
   // The whole text of the tree, as bytes.
   finish({ source, goal, lang, comments }) {
-    const { bytes, offsets } = this;
+    const { bytes } = this;
     this.last = bytes.end;
-    const head = Buffer.from(`{"comments":[${comments.join(',')}],"format":1,"goal":"${goal}","lang":"${lang}","rows":[`);
+    const head = this.headOf({ goal, lang, comments });
     bytes.ascii('],"source":');
-    const text = JSON.stringify(source);
-    if (offsets.isAscii) bytes.ascii(text);
-    else bytes.string(text);
+    this.putSource(source);
     bytes.ascii('}');
     if (head.length + bytes.end - this.start > MOST_BYTES) throw new Refusal('too large');
     if (head.length > this.start) return Buffer.concat([head, bytes.buffer.subarray(this.start, bytes.end)]);
