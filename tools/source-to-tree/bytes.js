@@ -8,8 +8,8 @@ const THOUSAND = 1000;
 
 // An ASCII text as words, and how many bytes it has. The words are numbers in the engine's own form, since these are read and written
 // eight bytes at once; bytes of ASCII are never those of what is no number.
-function wordsOf(text) {
-  const bytes = Buffer.alloc(WORD * Math.ceil(text.length / WORD));
+function wordsOf(text, fewest = 1) {
+  const bytes = Buffer.alloc(WORD * Math.max(fewest, Math.ceil(text.length / WORD)));
   bytes.latin1Write(text);
   const words = new Float64Array(bytes.length / WORD);
   for (let i = 0; i < words.length; i++) words[i] = bytes.readDoubleLE(WORD * i);
@@ -40,6 +40,18 @@ function putShort(view, at, value) {
 function putPadded(view, at, value) {
   view.setInt32(at, PADDED[value], true);
   return at + 3;
+}
+
+const HEAD_WORDS = 5; // that nearly every head has, with those behind its end
+
+// Writes words of which there are at least as many. It has no loop for these, since processors guess wrongly where a short one ends.
+function putHead(view, at, words) {
+  view.setFloat64(at, words[0], true);
+  view.setFloat64(at + WORD, words[1], true);
+  view.setFloat64(at + 2 * WORD, words[2], true);
+  view.setFloat64(at + 3 * WORD, words[3], true);
+  view.setFloat64(at + 4 * WORD, words[4], true);
+  for (let i = HEAD_WORDS; i < words.length; i++) view.setFloat64(at + i * WORD, words[i], true);
 }
 
 // A number below a milliard, and a comma.
@@ -79,7 +91,8 @@ class Bytes {
   // What is kept as words, where there is room.
   copy({ words, length }) {
     const { view, end } = this;
-    for (let i = 0, at = end; i < words.length; i++, at += WORD) view.setFloat64(at, words[i], true);
+    view.setFloat64(end, words[0], true);
+    for (let i = 1; i < words.length; i++) view.setFloat64(end + i * WORD, words[i], true);
     this.end = end + length;
   }
 
@@ -96,4 +109,4 @@ class Bytes {
   }
 }
 
-module.exports = { Bytes, WORD, putNumber, wordsOf };
+module.exports = { Bytes, HEAD_WORDS, WORD, putHead, putNumber, wordsOf };

@@ -1,6 +1,7 @@
 'use strict';
 // One conversion of the text of a source file to the JSON of its tree, on the stack that there is.
 
+const { kindOf } = require('./kinds');
 const { Refusal } = require('./refusal');
 const { ByteOffsets, MARK_BYTES } = require('./spans');
 const { TreeWriter } = require('./writer');
@@ -14,7 +15,7 @@ const MARK = '\ufeff';
 function hashbang(writer, text) {
   if (!text.startsWith('#!')) return;
   const end = lineEndFrom(text, 2);
-  writer.leaf('hashbang', 'Hashbang', 0, end, text.slice(2, end));
+  writer.leaf('hashbang', kindOf('Hashbang'), 0, end, text.slice(2, end));
 }
 
 // JavaScript with elements is JSX.
@@ -25,7 +26,7 @@ const languageIn = (lang, writer) => (lang === 'js' && writer.hasJsx ? 'jsx' : l
 function write(way, parsed, { source, text, lang, goal }) {
   const offsets = new ByteOffsets(text, source.startsWith(MARK) ? MARK_BYTES : 0);
   const writer = new TreeWriter(offsets, lang, parsed.comments === undefined ? 0 : parsed.comments.length);
-  writer.open('root', 'Program', 0, text.length);
+  writer.open('root', kindOf('Program'), 0, text.length);
   hashbang(writer, text);
   const comments = way.write(parsed, text, writer, new Annotations(text));
   writer.close();

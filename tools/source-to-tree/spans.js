@@ -1,9 +1,11 @@
 'use strict';
 // Parsers count UTF-16 units, the tree counts bytes of UTF-8. A byte order mark stands in the source and is not parsed.
 
+const { Utf8 } = require('./escapes');
 const { Refusal } = require('./refusal');
 
 const MARK_BYTES = 3;
+const NO_CHARACTER = Buffer.from('\ufffd'); // stands for the half of a character, too
 const BLOCK_BITS = 6; // the units of a block of the text are counted together
 const CHUNK_BITS = 10; // those of a chunk are asked at once whether all are ASCII
 
@@ -35,8 +37,9 @@ class ByteOffsets {
     this.text = text;
     this.shift = bytesBefore;
     this.last = text.length;
-    this.bytes = Buffer.from(text); // of the text
-    this.blocks = this.bytes.length === text.length ? null : blocksOf(text);
+    this.utf8 = new Utf8(text);
+    this.blocks = this.utf8.length === text.length ? null : blocksOf(text);
+    this.mayLackHalves = this.blocks !== null && this.utf8.bytes.includes(NO_CHARACTER); // the bytes, of characters
   }
 
   at(offset) {

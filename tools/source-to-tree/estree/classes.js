@@ -15,7 +15,7 @@ function heritageOf({ superClass, superTypeArguments, superTypeParameters }) {
 
 visit.class = (c, role, node, text) => {
   const start = classStart(c, node);
-  c.writer.open(role, 'Class', start, c.end(node), text, marksOfTwo('declare', node.declare, 'abstract', node.abstract));
+  c.openAt(role, 'Class', start, c.end(node), text, marksOfTwo('declare', node.declare, 'abstract', node.abstract));
   each(c, 'decorators', node.decorators, 'decorator');
   each(c, 'id', node.id, 'bindingName');
   each(c, 'typeParameters', node.typeParameters, 'typeParameters');

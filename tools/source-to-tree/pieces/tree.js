@@ -9,6 +9,7 @@ const { firstPlace } = require('../row-places');
 const { ByteOffsets, MARK_BYTES } = require('../spans');
 const { TreeWriter } = require('../writer');
 const { MARK, hashbang, isOverflow } = require('../once');
+const { kindOf } = require('../kinds');
 const { Refusal } = require('../refusal');
 const { allComments } = require('./known');
 const { Begins, writeBefore, writeBehind } = require('./rows');
@@ -46,7 +47,7 @@ function written(request, parsed, known) {
   const offsets = new ByteOffsets(text, isMarked ? MARK_BYTES : 0);
   const writer = new TreeWriter(offsets, lang, FEW_COMMENTS + (known?.comments.length ?? 0));
   const begins = new Begins();
-  writer.open('root', 'Program', 0, text.length);
+  writer.open('root', kindOf('Program'), 0, text.length);
   hashbang(writer, text);
   const firstRow = begins.addWritten(writer.bytes, writer.start);
   writeBefore(writer, begins, known, parsed.before);

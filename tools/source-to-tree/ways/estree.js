@@ -2,7 +2,7 @@
 // Takes the ESTree that another tool made of the text.
 
 const { Refusal } = require('../refusal');
-const { RangedConversion } = require('../estree');
+const { ForeignConversion } = require('../estree');
 
 const GOALS = ['script', 'module', 'commonjs'];
 
@@ -19,10 +19,26 @@ function commentsOf({ ast }) {
     .sort((a, b) => a.start - b.start);
 }
 
+// A copy in which each node has its places as `start` and `end`. Where it has both, `range` is what tools keep right. What was copied is in
+// `copies`, since nodes may lead back to those round them.
+function withPlaces(value, copies) {
+  if (value === null || typeof value !== 'object' || value instanceof RegExp) return value;
+  if (copies.has(value)) return copies.get(value);
+  const copy = Array.isArray(value) ? [] : Object.create(Object.getPrototypeOf(value), Object.getOwnPropertyDescriptors(value));
+  copies.set(value, copy);
+  for (const key of Object.keys(value)) set(copy, key, withPlaces(value[key], copies));
+  if (Array.isArray(value.range)) [['start', value.range[0]], ['end', value.range[1]]].forEach(([key, place]) => set(copy, key, place));
+  return copy;
+}
+
+function set(copy, key, value) {
+  Object.defineProperty(copy, key, { value, writable: true, enumerable: true, configurable: true });
+}
+
 // A tree from elsewhere may lack what its type promises.
 function write(parsed, text, writer, annotations) {
   try {
-    new RangedConversion(text, writer, annotations).program(parsed.ast);
+    new ForeignConversion(text, writer, annotations).program(withPlaces(parsed.ast, new Map()));
   } catch (error) {
     throw error instanceof TypeError ? new Refusal(`not an ESTree: ${error.message}`) : error;
   }
