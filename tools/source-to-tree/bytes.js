@@ -19,16 +19,15 @@ function wordsOf(text, fewest = 1) {
 const ZERO = 0x30;
 const COMMA = 0x2c;
 
-// The digits of a number below a thousand and a comma, as a word of four bytes whose last ones are of no account: just its own digits, or
-// all three.
-function digitsOf(value, isPadded) {
-  const [hundreds, tens, ones] = [(value / 100) | 0, ((value / 10) | 0) % 10, value % 10].map((digit) => ZERO + digit);
-  if (isPadded || value >= 100) return hundreds | (tens << 8) | (ones << 16) | (COMMA << 24);
-  return value >= 10 ? tens | (ones << 8) | (COMMA << 16) : ones | (COMMA << 8);
+// The three digits of each number below a thousand and a comma, as a word of four bytes, and just its own digits and a comma, where the last
+// bytes are of no account.
+const PADDED = new Int32Array(THOUSAND);
+const SHORT = new Int32Array(THOUSAND);
+for (let value = 0; value < THOUSAND; value++) {
+  const tens = ((value / 10) | 0) % 10;
+  PADDED[value] = (ZERO + ((value / 100) | 0)) | ((ZERO + tens) << 8) | ((ZERO + (value % 10)) << 16) | (COMMA << 24);
+  SHORT[value] = PADDED[value] >>> (value < 10 ? 16 : value < 100 ? 8 : 0);
 }
-
-const SHORT = Int32Array.from({ length: THOUSAND }, (_, value) => digitsOf(value, false));
-const PADDED = Int32Array.from({ length: THOUSAND }, (_, value) => digitsOf(value, true));
 
 // These write from a place of a view on, and give the place behind what they have written.
 

@@ -195,18 +195,18 @@ class TreeWriter {
     return places;
   }
 
+  putComment(head, begin, { block, start, end }) {
+    head.reserve(COMMENT);
+    head.copy(begin);
+    head.end = putNumber(head.view, putNumber(head.view, head.end, this.offsets.at(start)), this.offsets.at(end));
+    head.copy(block ? BLOCK : LINE);
+  }
+
   // What stands before the rows.
   headOf({ goal, lang, comments }) {
-    const { offsets } = this;
     const head = new Bytes(HEAD + COMMENT * comments.length);
     head.ascii('{"comments":[');
-    for (let i = 0; i < comments.length; i++) {
-      const { block, start, end } = comments[i];
-      head.reserve(COMMENT);
-      head.copy(i === 0 ? FIRST_COMMENT : NEXT_COMMENT);
-      head.end = putNumber(head.view, putNumber(head.view, head.end, offsets.at(start)), offsets.at(end));
-      head.copy(block ? BLOCK : LINE);
-    }
+    for (let i = 0; i < comments.length; i++) this.putComment(head, i === 0 ? FIRST_COMMENT : NEXT_COMMENT, comments[i]);
     head.ascii(`],"format":1,"goal":"${goal}","lang":"${lang}","rows":[`);
     return head.buffer.subarray(0, head.end);
   }

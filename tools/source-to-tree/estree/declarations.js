@@ -2,7 +2,7 @@
 // Declarations of TypeScript, as typescript-eslint and Babel give them: aliases, interfaces, enums, namespaces and modules.
 
 const { visit, each, plain, marksOf } = require('./visit');
-const { STATEMENTS, DECLARATIONS } = require('./statements');
+const { STATEMENTS, addDeclarations } = require('./statements');
 
 function enumMember(c, role, node) {
   c.open(role, 'TSEnumMember', node, '', marksOf({ computed: node.computed }));
@@ -73,7 +73,7 @@ function importEquals(c, role, node) {
   c.close();
 }
 
-Object.assign(DECLARATIONS, {
+addDeclarations({
   TSTypeAliasDeclaration(c, role, node) {
     c.open(role, 'TSTypeAliasDeclaration', node, '', marksOf({ declare: node.declare }));
     visit.bindingName(c, 'id', node.id);

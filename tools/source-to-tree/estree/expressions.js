@@ -14,11 +14,11 @@ visit.argument = (c, role, node) => {
   if (type === 'SpreadElement') visit.spread(c, role, node);
   else expressionOf(c, role, node, type);
 };
-visit.callee = (c, role, node) => {
-  const type = node.type;
+function calleeOf(c, role, node, type) {
   if (type === 'Super') c.leaf(role, 'Super', node);
   else expressionOf(c, role, node, type);
-};
+}
+visit.callee = (c, role, node) => calleeOf(c, role, node, node.type);
 
 // The elements of an array, its holes told by the places of their commas.
 function holedElements(c, node) {
@@ -75,9 +75,10 @@ function importCall(c, role, node) {
 const CALL = kindOf('CallExpression');
 function call(c, role, node) {
   const { start, end, callee, arguments: given } = node;
-  if (callee.type === 'Import') return importCall(c, role, node);
+  const calleeType = callee.type;
+  if (calleeType === 'Import') return importCall(c, role, node);
   c.writer.open(role, CALL, start, end, '', marksOfTwo('optional', node.optional, 'pure', c.annotations.takesPure(start)));
-  base(c, 'callee', node, callee);
+  base(c, 'callee', node, callee, calleeType);
   const types = node.typeArguments || node.typeParameters;
   if (types) visit.typeArguments(c, 'typeArguments', types);
   if (given) for (let i = 0; i < given.length; i++) visit.argument(c, 'arguments', given[i]);
@@ -100,15 +101,15 @@ function member(c, role, node) {
   const marks = markOf('optional', node.optional);
   if (node.computed) {
     c.writer.open(role, COMPUTED_MEMBER, start, end, '', marks);
-    base(c, 'object', node, object);
+    base(c, 'object', node, object, object.type);
     visit.expression(c, 'expression', property);
   } else if (property.type === 'Identifier') {
     c.writer.open(role, STATIC_MEMBER, start, end, '', marks);
-    base(c, 'object', node, object);
+    base(c, 'object', node, object, object.type);
     visit.name(c, 'property', property);
   } else {
     c.writer.open(role, PRIVATE_FIELD, start, end, '', marks);
-    base(c, 'object', node, object);
+    base(c, 'object', node, object, object.type);
     visit.privateName(c, 'field', property);
   }
   c.writer.close();
@@ -129,9 +130,9 @@ const isLinkType = (type) => type === 'OptionalMemberExpression' || type === 'Op
 const isLink = (node) => isLinkType(node.type) || (node.type === 'TSNonNullExpression' && isLink(node.expression));
 
 // What a call or member expression stands on: where it is a link, the chain goes on.
-function base(c, role, outer, node) {
+function base(c, role, outer, node, type) {
   if (isLinkType(outer.type) && isLink(node)) link(c, role, node);
-  else visit.callee(c, role, node);
+  else calleeOf(c, role, node, type);
 }
 
 function link(c, role, node) {

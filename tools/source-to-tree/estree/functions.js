@@ -4,7 +4,7 @@
 const { skipTrivia, openParenthesis, closingEnd, nameEnd } = require('../trivia');
 const { kindOf } = require('../kinds');
 const { visit, each, markOf, marksOf, marksOfTwo } = require('./visit');
-const { DECLARATIONS } = require('./statements');
+const { addDeclarations } = require('./statements');
 
 const isThis = (node) => node !== undefined && node.type === 'Identifier' && node.name === 'this';
 
@@ -136,5 +136,4 @@ visit.arrow = (c, role, node) => {
   c.close();
 };
 
-DECLARATIONS.FunctionDeclaration = visit.functionDeclaration;
-DECLARATIONS.TSDeclareFunction = visit.functionDeclaration;
+addDeclarations({ FunctionDeclaration: visit.functionDeclaration, TSDeclareFunction: visit.functionDeclaration });

@@ -130,15 +130,22 @@ const STATEMENTS = {
   TryStatement: plain('TryStatement', { block: 'block', handler: 'catchClause', finalizer: 'block' }),
 };
 
-// Those that may be exported; other families add theirs.
-const DECLARATIONS = { VariableDeclaration: visit.variables };
+// Those that may be exported.
+const DECLARATIONS = {};
+
+// Other families add theirs, which are statements, too.
+function addDeclarations(visitors) {
+  Object.assign(DECLARATIONS, visitors);
+  Object.assign(STATEMENTS, visitors);
+}
+addDeclarations({ VariableDeclaration: visit.variables });
 
 visit.declaration = byType(DECLARATIONS, 'a declaration');
 visit.statement = (c, role, node) => {
   const type = node.type;
-  const visitor = STATEMENTS[type] || DECLARATIONS[type];
+  const visitor = STATEMENTS[type];
   if (visitor === undefined) c.refuse(node, `${type} can't be a statement`);
   visitor(c, role, node);
 };
 
-module.exports = { STATEMENTS, DECLARATIONS };
+module.exports = { STATEMENTS, addDeclarations };
