@@ -104,10 +104,12 @@ class TreeWriter {
     this.row(role, kind, start, end, NOWHERE, text, marks);
   }
 
-  // A leaf that has the text of the source as its own, without so many marks on each side. What it has instead where that is spelled with
-  // escapes is told by `text`.
+  // A leaf whose text the source has at its place, too, without so many marks on each side, unless that is spelled with escapes there. Where
+  // it is as long and begins so, it is copied from there.
   spelled(role, kind, start, end, marksRound, text, marks = NO_MARKS) {
-    this.row(role, kind, start, end, this.offsets.mayLackHalves ? NOWHERE : marksRound, text, marks);
+    const { text: source, mayLackHalves } = this.offsets;
+    const isThere = text.length === end - start - 2 * marksRound && text.charCodeAt(0) === source.charCodeAt(start + marksRound);
+    this.row(role, kind, start, end, isThere && !mayLackHalves ? marksRound : NOWHERE, text, marks);
   }
 
   // It writes out what others could do for it, and is so too large for an engine to compile it anew with each function that leads to it.

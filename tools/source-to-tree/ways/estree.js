@@ -19,20 +19,21 @@ function commentsOf({ ast }) {
     .sort((a, b) => a.start - b.start);
 }
 
-// A copy in which each node has its places as `start` and `end`. Where it has both, `range` is what tools keep right. What was copied is in
-// `copies`, since nodes may lead back to those round them.
-function withPlaces(value, copies) {
-  if (value === null || typeof value !== 'object' || value instanceof RegExp) return value;
-  if (copies.has(value)) return copies.get(value);
-  const copy = Array.isArray(value) ? [] : Object.create(Object.getPrototypeOf(value), Object.getOwnPropertyDescriptors(value));
-  copies.set(value, copy);
-  for (const key of Object.keys(value)) set(copy, key, withPlaces(value[key], copies));
-  if (Array.isArray(value.range)) [['start', value.range[0]], ['end', value.range[1]]].forEach(([key, place]) => set(copy, key, place));
-  return copy;
-}
+// What has no nodes that are written, or leads back.
+const APART = new Set(['range', 'loc', 'parent', 'tokens', 'comments']);
 
-function set(copy, key, value) {
-  Object.defineProperty(copy, key, { value, writable: true, enumerable: true, configurable: true });
+// Copies in which each node has its places as `start` and `end`; where it has both, `range` is what tools keep right. What was copied is in
+// `copies`, since nodes of some tools lead to others round them.
+function withPlaces(value, copies) {
+  if (Array.isArray(value)) return value.map((entry) => withPlaces(entry, copies));
+  if (value === null || typeof value !== 'object' || typeof value.type !== 'string') return value;
+  const known = copies.get(value);
+  if (known !== undefined) return known;
+  const { range = [value.start, value.end] } = value;
+  const copy = { ...value, start: range[0], end: range[1] };
+  copies.set(value, copy);
+  for (const key of Object.keys(value)) if (typeof value[key] === 'object' && !APART.has(key)) copy[key] = withPlaces(value[key], copies);
+  return copy;
 }
 
 // A tree from elsewhere may lack what its type promises.
