@@ -19,8 +19,8 @@ function wordsOf(text, fewest = 1) {
 const ZERO = 0x30;
 const COMMA = 0x2c;
 
-// The three digits of each number below a thousand and a comma, as a word of four bytes, and just its own digits and a comma, where the last
-// bytes are of no account.
+// The three digits of each number below a thousand and a comma, as a word of four bytes, and just its own digits and a comma, where the
+// last bytes are of no account.
 const PADDED = new Int32Array(THOUSAND);
 const SHORT = new Int32Array(THOUSAND);
 for (let value = 0; value < THOUSAND; value++) {

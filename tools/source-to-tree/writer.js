@@ -68,6 +68,7 @@ const LINE = wordsOf('"line"]');
 const MARK = '\ufeff';
 
 const NOWHERE = -1;
+const NOT_THERE = -1; // in place of a number of marks: the text isn't taken from the source
 
 class TreeWriter {
   // There is room for so many comments.
@@ -90,7 +91,7 @@ class TreeWriter {
 
   // A node whose children follow until close.
   open(role, kind, start, end, text = '', marks = NO_MARKS) {
-    this.row(role, kind, start, end, NOWHERE, text, marks);
+    this.row(role, kind, start, end, NOT_THERE, text, marks);
     if (kind.isFunction && this.outermost === NOWHERE) this.outermost = this.depth;
     this.depth += 1;
   }
@@ -101,7 +102,7 @@ class TreeWriter {
   }
 
   leaf(role, kind, start, end, text = '', marks = NO_MARKS) {
-    this.row(role, kind, start, end, NOWHERE, text, marks);
+    this.row(role, kind, start, end, NOT_THERE, text, marks);
   }
 
   // A leaf whose text the source has at its place, too, without so many marks on each side, unless that is spelled with escapes there. Where
@@ -109,7 +110,7 @@ class TreeWriter {
   spelled(role, kind, start, end, marksRound, text, marks = NO_MARKS) {
     const { text: source, mayLackHalves } = this.offsets;
     const isThere = text.length === end - start - 2 * marksRound && text.charCodeAt(0) === source.charCodeAt(start + marksRound);
-    this.row(role, kind, start, end, isThere && !mayLackHalves ? marksRound : NOWHERE, text, marks);
+    this.row(role, kind, start, end, isThere && !mayLackHalves ? marksRound : NOT_THERE, text, marks);
   }
 
   // It writes out what others could do for it, and is so too large for an engine to compile it anew with each function that leads to it.
@@ -130,7 +131,7 @@ class TreeWriter {
     const first = offsets.at(start);
     const behind = offsets.at(end);
     bytes.end = putNumber(view, putNumber(view, at + head.length, first), behind);
-    if (marksRound !== NOWHERE) {
+    if (marksRound !== NOT_THERE) {
       const before = offsets.shift - marksRound;
       this.finishSpelled(first - before, behind - marksRound - offsets.shift, text, marks);
     } else {

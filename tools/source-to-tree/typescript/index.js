@@ -103,6 +103,11 @@ class TypeScriptConversion {
     this.writer.close();
   }
 
+  // A leaf whose text the source has at its place, unless that is spelled with escapes.
+  spelled(role, kind, node, text) {
+    this.writer.spelled(role, kindOf(kind), this.start(node), node.end, 0, text);
+  }
+
   leafAt(role, kind, start, end, text, marks) {
     this.writer.leaf(role, kindOf(kind), start, end, text, marks);
   }
