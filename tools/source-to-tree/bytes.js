@@ -8,8 +8,8 @@ const THOUSAND = 1000;
 
 // An ASCII text as words, and how many bytes it has. The words are numbers in the engine's own form, since these are read and written
 // eight bytes at once; bytes of ASCII are never those of what is no number.
-function wordsOf(text) {
-  const bytes = Buffer.alloc(WORD * Math.ceil(text.length / WORD));
+function wordsOf(text, fewest = 1) {
+  const bytes = Buffer.alloc(WORD * Math.max(fewest, Math.ceil(text.length / WORD)));
   bytes.latin1Write(text);
   const words = new Float64Array(bytes.length / WORD);
   for (let i = 0; i < words.length; i++) words[i] = bytes.readDoubleLE(WORD * i);
@@ -17,16 +17,17 @@ function wordsOf(text) {
 }
 
 const ZERO = 0x30;
+const COMMA = 0x2c;
 
-// The digits of a number below a thousand, as a word of four bytes whose last ones are of no account: just its own, or all three.
-function digitsOf(value, isPadded) {
-  const [hundreds, tens, ones] = [(value / 100) | 0, ((value / 10) | 0) % 10, value % 10].map((digit) => ZERO + digit);
-  if (isPadded || value >= 100) return hundreds | (tens << 8) | (ones << 16);
-  return value >= 10 ? tens | (ones << 8) : ones;
+// The three digits of each number below a thousand and a comma, as a word of four bytes, and just its own digits and a comma, where the
+// last bytes are of no account.
+const PADDED = new Int32Array(THOUSAND);
+const SHORT = new Int32Array(THOUSAND);
+for (let value = 0; value < THOUSAND; value++) {
+  const tens = ((value / 10) | 0) % 10;
+  PADDED[value] = (ZERO + ((value / 100) | 0)) | ((ZERO + tens) << 8) | ((ZERO + (value % 10)) << 16) | (COMMA << 24);
+  SHORT[value] = PADDED[value] >>> (value < 10 ? 16 : value < 100 ? 8 : 0);
 }
-
-const SHORT = Int32Array.from({ length: THOUSAND }, (_, value) => digitsOf(value, false));
-const PADDED = Int32Array.from({ length: THOUSAND }, (_, value) => digitsOf(value, true));
 
 // These write from a place of a view on, and give the place behind what they have written.
 
@@ -40,14 +41,26 @@ function putPadded(view, at, value) {
   return at + 3;
 }
 
-// A number below a milliard.
+const HEAD_WORDS = 5; // that nearly every head has, with those behind its end
+
+// Writes words of which there are at least as many. It has no loop for these, since processors guess wrongly where a short one ends.
+function putHead(view, at, words) {
+  view.setFloat64(at, words[0], true);
+  view.setFloat64(at + WORD, words[1], true);
+  view.setFloat64(at + 2 * WORD, words[2], true);
+  view.setFloat64(at + 3 * WORD, words[3], true);
+  view.setFloat64(at + 4 * WORD, words[4], true);
+  for (let i = HEAD_WORDS; i < words.length; i++) view.setFloat64(at + i * WORD, words[i], true);
+}
+
+// A number below a milliard, and a comma.
 function putNumber(view, at, value) {
-  if (value < THOUSAND) return putShort(view, at, value);
+  if (value < THOUSAND) return putShort(view, at, value) + 1;
   const thousands = (value / THOUSAND) | 0;
   const rest = value - thousands * THOUSAND;
-  if (thousands < THOUSAND) return putPadded(view, putShort(view, at, thousands), rest);
+  if (thousands < THOUSAND) return putPadded(view, putShort(view, at, thousands), rest) + 1;
   const millions = (thousands / THOUSAND) | 0;
-  return putPadded(view, putPadded(view, putShort(view, at, millions), thousands - millions * THOUSAND), rest);
+  return putPadded(view, putPadded(view, putShort(view, at, millions), thousands - millions * THOUSAND), rest) + 1;
 }
 
 class Bytes {
@@ -77,7 +90,8 @@ class Bytes {
   // What is kept as words, where there is room.
   copy({ words, length }) {
     const { view, end } = this;
-    for (let i = 0, at = end; i < words.length; i++, at += WORD) view.setFloat64(at, words[i], true);
+    view.setFloat64(end, words[0], true);
+    for (let i = 1; i < words.length; i++) view.setFloat64(end + i * WORD, words[i], true);
     this.end = end + length;
   }
 
@@ -94,4 +108,4 @@ class Bytes {
   }
 }
 
-module.exports = { Bytes, WORD, putNumber, wordsOf };
+module.exports = { Bytes, HEAD_WORDS, WORD, putHead, putNumber, wordsOf };

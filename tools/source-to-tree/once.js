@@ -1,6 +1,7 @@
 'use strict';
 // One conversion of the text of a source file to the JSON of its tree, on the stack that there is.
 
+const { kindOf } = require('./kinds');
 const { Refusal } = require('./refusal');
 const { ByteOffsets, MARK_BYTES } = require('./spans');
 const { TreeWriter } = require('./writer');
@@ -14,16 +15,8 @@ const MARK = '\ufeff';
 function hashbang(writer, text) {
   if (!text.startsWith('#!')) return;
   const end = lineEndFrom(text, 2);
-  writer.leaf('hashbang', 'Hashbang', 0, end, text.slice(2, end));
+  writer.leaf('hashbang', kindOf('Hashbang'), 0, end, text.slice(2, end));
 }
-
-function commentTexts(comments, offsets) {
-  return comments.map(({ block, start, end }) => `[${offsets.at(start)},${offsets.at(end)},"${block ? 'block' : 'line'}"]`);
-}
-
-const HEAD = 128; // bytes of a tree before its rows, without the comments
-const COMMENT = 32; // bytes of a comment
-const roomFor = (comments) => HEAD + COMMENT * comments;
 
 // JavaScript with elements is JSX.
 const languageIn = (lang, writer) => (lang === 'js' && writer.hasJsx ? 'jsx' : lang);
@@ -32,14 +25,14 @@ const languageIn = (lang, writer) => (lang === 'js' && writer.hasJsx ? 'jsx' : l
 // found to be a module.
 function write(way, parsed, { source, text, lang, goal }) {
   const offsets = new ByteOffsets(text, source.startsWith(MARK) ? MARK_BYTES : 0);
-  const writer = new TreeWriter(offsets, lang, roomFor(parsed.comments === undefined ? 0 : parsed.comments.length));
-  writer.open('root', 'Program', 0, text.length);
+  const writer = new TreeWriter(offsets, lang, parsed.comments === undefined ? 0 : parsed.comments.length);
+  writer.open('root', kindOf('Program'), 0, text.length);
   hashbang(writer, text);
   const comments = way.write(parsed, text, writer, new Annotations(text));
   writer.close();
   if (writer.isModule && parsed.asScript) return null;
   const read = { lang: languageIn(lang, writer), goal: goal || (writer.isModule ? 'module' : parsed.goal || 'script') };
-  const json = writer.finish({ source, ...read, comments: commentTexts(comments, offsets) });
+  const json = writer.finish({ source, ...read, comments });
   return { json, source, ...read, placesOf: () => writer.placesIn(json) };
 }
 
@@ -74,4 +67,4 @@ function convertOnce(source, options) {
   }
 }
 
-module.exports = { convertOnce, write, isOverflow, hashbang, commentTexts, roomFor, MARK };
+module.exports = { convertOnce, write, isOverflow, hashbang, MARK };

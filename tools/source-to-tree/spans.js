@@ -1,11 +1,13 @@
 'use strict';
 // Parsers count UTF-16 units, the tree counts bytes of UTF-8. A byte order mark stands in the source and is not parsed.
 
+const { Utf8 } = require('./escapes');
 const { Refusal } = require('./refusal');
 
 const MARK_BYTES = 3;
+const NO_CHARACTER = Buffer.from('\ufffd'); // stands for the half of a character, too
 const BLOCK_BITS = 6; // the units of a block of the text are counted together
-const LONG = /[^\0-\x7f]/g;
+const CHUNK_BITS = 10; // those of a chunk are asked at once whether all are ASCII
 
 // The bytes that a unit has above one. Half of a character of four bytes has two.
 function bytesAbove(unit) {
@@ -13,12 +15,17 @@ function bytesAbove(unit) {
   return unit < 0x800 || (unit >= 0xd800 && unit <= 0xdfff) ? 1 : 2;
 }
 
+// Adds what each unit of a part of the text has above one to the entry behind its block.
+function count(blocks, text, from, to) {
+  for (let at = from; at < to; at++) blocks[(at >> BLOCK_BITS) + 1] += bytesAbove(text.charCodeAt(at));
+}
+
 // For each block of the text how many bytes more than units stand before it; the last entry is for the whole text.
 function blocksOf(text) {
-  const blocks = new Uint32Array((text.length >> BLOCK_BITS) + 2);
-  LONG.lastIndex = 0;
-  for (let found = LONG.exec(text); found !== null; found = LONG.exec(text)) {
-    blocks[(found.index >> BLOCK_BITS) + 1] += bytesAbove(text.charCodeAt(found.index));
+  const blocks = new Int32Array((text.length >> BLOCK_BITS) + 2);
+  for (let from = 0; from < text.length; from += 1 << CHUNK_BITS) {
+    const chunk = text.slice(from, from + (1 << CHUNK_BITS));
+    if (Buffer.byteLength(chunk) > chunk.length) count(blocks, text, from, from + chunk.length);
   }
   for (let i = 1; i < blocks.length; i++) blocks[i] += blocks[i - 1];
   return blocks;
@@ -30,8 +37,9 @@ class ByteOffsets {
     this.text = text;
     this.shift = bytesBefore;
     this.last = text.length;
-    this.blocks = Buffer.byteLength(text, 'utf8') === text.length ? null : blocksOf(text);
-    this.isAscii = this.blocks === null && bytesBefore === 0;
+    this.utf8 = new Utf8(text);
+    this.blocks = this.utf8.length === text.length ? null : blocksOf(text);
+    this.mayLackHalves = this.blocks !== null && this.utf8.bytes.includes(NO_CHARACTER); // the bytes, of characters
   }
 
   at(offset) {

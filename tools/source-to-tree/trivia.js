@@ -5,8 +5,14 @@ const LINE_END = /[\n\r\u2028\u2029]/g;
 const SPACE = /[\s\ufeff]/;
 const NAME_PART = /[$_\u200c\u200d\p{ID_Continue}]/u;
 
+const ASCII_END = 128;
+const SLASH = 0x2f;
+const LESS = 0x3c;
+const DASH = 0x2d;
+const IN_NAMES = Uint8Array.from({ length: ASCII_END }, (_, unit) => (NAME_PART.test(String.fromCharCode(unit)) ? 1 : 0));
+
 function isSpace(unit) {
-  if (unit < 128) return unit === 32 || (unit >= 9 && unit <= 13);
+  if (unit < ASCII_END) return unit === 32 || (unit >= 9 && unit <= 13);
   return SPACE.test(String.fromCharCode(unit));
 }
 
@@ -18,6 +24,8 @@ function lineEndFrom(text, at) {
 
 // The end of the comment that begins here, or -1. The comments of HTML are those of scripts.
 function commentEnd(text, at) {
+  const unit = text.charCodeAt(at);
+  if (unit !== SLASH && unit !== LESS && unit !== DASH) return -1;
   const next = text[at + 1];
   if (text[at] === '/' && next === '/') return lineEndFrom(text, at);
   if (text[at] === '/' && next === '*') {
@@ -43,6 +51,7 @@ function skipTrivia(text, from) {
 function nameEnd(text, from) {
   let at = from;
   for (;;) {
+    while (IN_NAMES[text.charCodeAt(at)] === 1) at++;
     if (text[at] === '\\') at = text[at + 2] === '{' ? text.indexOf('}', at) + 1 : at + 6;
     const point = text.codePointAt(at);
     if (point === undefined) return at;

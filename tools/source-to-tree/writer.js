@@ -2,7 +2,8 @@
 // Writes a tree as JSON: the rows of its nodes in preorder, each node opened before its children and closed behind them.
 
 const { Refusal } = require('./refusal');
-const { Bytes, WORD, putNumber, wordsOf } = require('./bytes');
+const { Bytes, WORD, putHead, putNumber, wordsOf } = require('./bytes');
+const { isPlain } = require('./escapes');
 const { firstPlace } = require('./row-places');
 
 const DEEPEST = 1000;
@@ -16,16 +17,7 @@ const NO_MARKS = [];
 
 const TYPED_ONLY = 'types and declarations of TypeScript stand in TypeScript files only';
 
-// Statements of a program that make it a module.
-const MODULE_STATEMENTS = new Set(['ImportDeclaration', 'ExportDeclaration', 'ExportNamedDeclaration', 'ExportFromDeclaration',
-  'ExportDefaultDeclaration', 'ExportAllDeclaration', 'TSExportAssignment', 'TSNamespaceExportDeclaration']);
-const FUNCTIONS = new Set(['Function', 'ArrowFunctionExpression']);
-
 const QUOTE = 0x22;
-const COMMA = 0x2c;
-const BACKSLASH = 0x5c;
-const SPACE = 0x20;
-const LAST_OF_ASCII = 0x7f;
 
 const BEGINS = []; // how a row begins, by its depth, where one was that deep: it is a single word
 
@@ -35,54 +27,23 @@ function beginOf(depth) {
   return BEGINS[depth];
 }
 
-// What is written of each kind, and what a kind tells of the file: made when the kind is met first.
-class Kind {
-  constructor(name) {
-    this.name = name;
-    this.heads = new Map(); // by role: role and kind as they are written
-    this.lastRole = '';
-    this.lastHead = null;
-    this.isFunction = FUNCTIONS.has(name);
-    this.isTyped = name.startsWith('TS');
-    this.isJsx = name.startsWith('JSX');
-    this.isModuleStatement = MODULE_STATEMENTS.has(name);
-    this.isExternal = name === 'TSExternalModuleReference';
-    this.isAwait = name === 'AwaitExpression';
-    this.mayAwait = this.isAwait || name === 'ForOfStatement' || name === 'VariableDeclaration';
-    this.isPlain = !(this.isFunction || this.isTyped || this.isJsx || this.isModuleStatement || this.mayAwait);
-  }
-
-  headFor(role) {
-    let head = this.heads.get(role);
-    if (head === undefined) {
-      head = wordsOf(`,"${role}","${this.name}",`);
-      this.heads.set(role, head);
-    }
-    this.lastRole = role;
-    this.lastHead = head;
-    return head;
-  }
-}
-
-const kinds = new Map();
-
-function kindOf(name) {
-  const kind = kinds.get(name);
-  if (kind !== undefined) return kind;
-  kinds.set(name, new Kind(name));
-  return kinds.get(name);
-}
-
-// The end of a row, from behind its text on, for each mark alone and for none.
-const BARE_END = wordsOf(',"",[]]'); // where there is no text either
-const NO_MARK_END = wordsOf(',[]]');
-const ENDS = new Map(MARKS.map((mark) => [mark, wordsOf(`,["${mark}"]]`)]));
+// The end of a row, from the end of its text on, for each mark alone and for none.
+const NO_MARK_END = wordsOf('",[]]');
+const ENDS = new Map(MARKS.map((mark) => [mark, wordsOf(`",["${mark}"]]`)]));
 
 function endFor(marks) {
   if (marks.length === 1) return ENDS.get(marks[0]);
   const sorted = marks.sort((a, b) => PLACE.get(a) - PLACE.get(b));
-  return wordsOf(`,["${sorted.join('","')}"]]`);
+  return wordsOf(`",["${sorted.join('","')}"]]`);
 }
+
+// Texts that many nodes have, each with what stands behind it where there is no mark.
+const TEXTS = ['', 'declaration', 'expression', 'formal', 'unique', 'arrow', 'init', 'get', 'set', 'method', 'constructor', 'const', 'let', 'var',
+  'true', 'false', '=', '+=', '-=', '*=', '/=', '%=', '|=', '&=', '^=', '<<=', '>>=', '>>>=', '**=', '||=', '&&=', '??=', '==', '===', '!=', '!==',
+  '<', '<=', '>', '>=', '+', '-', '*', '/', '%', '**', '|', '&', '^', '<<', '>>', '>>>', '||', '&&', '??', '!', '~', '++', '--', 'in', 'instanceof',
+  'typeof', 'void', 'delete'];
+const TAILS = new Map(TEXTS.map((text) => [text, wordsOf(`"${text}",[]]`)]));
+const NO_TEXT = TAILS.get('');
 
 const ROWS = 1024; // at first
 
@@ -93,11 +54,26 @@ function grown(places) {
 }
 
 const ROW_ROOM = 512; // for a row without its text: no role, kind or list of marks is half as long
-const BYTES_PER_UNIT = 9; // of a tree, by its source: more than most have
+const BYTES_PER_UNIT = 10; // of a tree, by its source: more than most have
+
+const FEW_ESCAPES = 3; // a text has fewer than one for two to the power of this many bytes, or is rare
+
+const HEAD = 128; // bytes of a tree before its rows, without the comments
+const COMMENT = 32; // bytes of a comment
+const FIRST_COMMENT = wordsOf('[');
+const NEXT_COMMENT = wordsOf(',[');
+const BLOCK = wordsOf('"block"]');
+const LINE = wordsOf('"line"]');
+
+const MARK = '\ufeff';
+
+const NOWHERE = -1;
+const NOT_THERE = -1; // in place of a number of marks: the text isn't taken from the source
 
 class TreeWriter {
-  // gap is how many bytes the comments may take
-  constructor(offsets, lang, gap) {
+  // There is room for so many comments.
+  constructor(offsets, lang, comments) {
+    const gap = HEAD + COMMENT * comments;
     this.offsets = offsets;
     this.isTyped = lang !== 'js' && lang !== 'jsx';
     this.start = gap;
@@ -107,37 +83,42 @@ class TreeWriter {
     this.bytes.end = gap;
     this.places = new Uint32Array(ROWS); // where the rows begin
     this.rows = 0;
-    this.opened = []; // the kinds of the nodes that are open
     this.depth = 0;
-    this.functions = 0;
+    this.outermost = NOWHERE; // the depth of the outermost function that is open
     this.isModule = false;
     this.hasJsx = false;
   }
 
   // A node whose children follow until close.
-  open(role, name, start, end, text = '', marks = NO_MARKS) {
-    const kind = kindOf(name);
-    this.row(kind, role, start, end, text, marks);
-    if (kind.isFunction) this.functions++;
-    this.opened[this.depth] = kind;
+  open(role, kind, start, end, text = '', marks = NO_MARKS) {
+    this.row(role, kind, start, end, NOT_THERE, text, marks);
+    if (kind.isFunction && this.outermost === NOWHERE) this.outermost = this.depth;
     this.depth += 1;
   }
 
   close() {
     this.depth -= 1;
-    if (this.opened[this.depth].isFunction) this.functions--;
+    if (this.depth === this.outermost) this.outermost = NOWHERE;
   }
 
-  leaf(role, name, start, end, text = '', marks = NO_MARKS) {
-    this.row(kindOf(name), role, start, end, text, marks);
+  leaf(role, kind, start, end, text = '', marks = NO_MARKS) {
+    this.row(role, kind, start, end, NOT_THERE, text, marks);
+  }
+
+  // A leaf whose text the source has at its place, too, without so many marks on each side, unless that is spelled with escapes there. Where
+  // it is as long and begins so, it is copied from there.
+  spelled(role, kind, start, end, marksRound, text, marks = NO_MARKS) {
+    const { text: source, mayLackHalves } = this.offsets;
+    const isThere = text.length === end - start - 2 * marksRound && text.charCodeAt(0) === source.charCodeAt(start + marksRound);
+    this.row(role, kind, start, end, isThere && !mayLackHalves ? marksRound : NOT_THERE, text, marks);
   }
 
   // It writes out what others could do for it, and is so too large for an engine to compile it anew with each function that leads to it.
-  row(kind, role, start, end, text, marks) {
+  row(role, kind, start, end, marksRound, text, marks) {
     const { bytes, offsets, depth } = this;
     if (depth > DEEPEST) throw new Refusal('too deep');
     if (kind.isTyped && !this.isTyped) throw new Refusal(TYPED_ONLY, start);
-    bytes.reserve(ROW_ROOM + text.length);
+    bytes.reserve(ROW_ROOM);
     const { view } = bytes;
     const begin = BEGINS[depth] ?? beginOf(depth);
     const head = kind.lastRole === role ? kind.lastHead : kind.headFor(role);
@@ -146,41 +127,52 @@ class TreeWriter {
     this.places[this.rows++] = at;
     view.setFloat64(at, begin.words[0], true);
     at += begin.length;
-    for (let i = 0, to = at; i < head.words.length; i++, to += WORD) view.setFloat64(to, head.words[i], true);
-    at = putNumber(view, at + head.length, offsets.at(start));
-    view.setUint8(at, COMMA);
-    at = putNumber(view, at + 1, offsets.at(end));
-    if (text !== '' || marks.length > 0) {
-      this.finishRow(at, text, marks);
+    putHead(view, at, head.words);
+    const first = offsets.at(start);
+    const behind = offsets.at(end);
+    bytes.end = putNumber(view, putNumber(view, at + head.length, first), behind);
+    if (marksRound !== NOT_THERE) {
+      const before = offsets.shift - marksRound;
+      this.finishSpelled(first - before, behind - marksRound - offsets.shift, text, marks);
     } else {
-      view.setFloat64(at, BARE_END.words[0], true);
-      bytes.end = at + BARE_END.length;
+      const tail = marks.length > 0 ? undefined : text === '' ? NO_TEXT : TAILS.get(text);
+      if (tail === undefined) this.finishText(text, marks);
+      else bytes.copy(tail);
     }
     if (bytes.end > this.most) throw new Refusal('too large');
     if (!kind.isPlain) this.notice(kind, text, marks);
   }
 
-  // The text and what stands behind it.
-  finishRow(from, text, marks) {
+  // The text, which the source has from one byte to another, and what stands behind it.
+  finishSpelled(from, to, text, marks) {
     const { bytes } = this;
-    const { view } = bytes;
-    view.setUint8(from, COMMA);
-    view.setUint8(from + 1, QUOTE);
-    let at = from + 2;
-    for (let i = 0; i < text.length; i++, at++) {
-      const unit = text.charCodeAt(i);
-      if (unit < SPACE || unit > LAST_OF_ASCII || unit === QUOTE || unit === BACKSLASH) return this.finishEscaped(from, text, marks);
-      view.setUint8(at, unit);
-    }
-    view.setUint8(at, QUOTE);
-    bytes.end = at + 1;
+    bytes.reserve(ROW_ROOM + to - from);
+    bytes.view.setUint8(bytes.end, QUOTE);
+    const end = this.offsets.utf8.copyPlain(from, to, bytes.view, bytes.end + 1);
+    if (end === -1) return this.finishText(text, marks);
+    bytes.end = end;
     return bytes.copy(marks.length === 0 ? NO_MARK_END : endFor(marks));
   }
 
-  finishEscaped(from, text, marks) {
+  finishText(text, marks) {
     const { bytes } = this;
-    bytes.end = from + 1;
+    bytes.reserve(ROW_ROOM + text.length);
+    const { view } = bytes;
+    let at = bytes.end;
+    view.setUint8(at++, QUOTE);
+    for (let i = 0; i < text.length; i++, at++) {
+      const unit = text.charCodeAt(i);
+      if (!isPlain(unit)) return this.finishEscaped(text, marks);
+      view.setUint8(at, unit);
+    }
+    bytes.end = at;
+    return bytes.copy(marks.length === 0 ? NO_MARK_END : endFor(marks));
+  }
+
+  finishEscaped(text, marks) {
+    const { bytes } = this;
     bytes.string(JSON.stringify(text));
+    bytes.end -= 1;
     bytes.reserve(ROW_ROOM);
     bytes.copy(marks.length === 0 ? NO_MARK_END : endFor(marks));
   }
@@ -194,7 +186,7 @@ class TreeWriter {
   }
 
   noticeAwait(kind, text, [mark]) {
-    if (this.functions === 0 && (kind.isAwait || mark === 'await' || text === 'await using')) this.isModule = true;
+    if (this.outermost === NOWHERE && (kind.isAwait || mark === 'await' || text === 'await using')) this.isModule = true;
   }
 
   // Where the rows begin in the text of the tree, and where the last one ends. Behind the first each has a comma before it.
@@ -206,15 +198,46 @@ class TreeWriter {
     return places;
   }
 
+  putComment(head, begin, { block, start, end }) {
+    head.reserve(COMMENT);
+    head.copy(begin);
+    head.end = putNumber(head.view, putNumber(head.view, head.end, this.offsets.at(start)), this.offsets.at(end));
+    head.copy(block ? BLOCK : LINE);
+  }
+
+  // What stands before the rows.
+  headOf({ goal, lang, comments }) {
+    const head = new Bytes(HEAD + COMMENT * comments.length);
+    head.ascii('{"comments":[');
+    for (let i = 0; i < comments.length; i++) this.putComment(head, i === 0 ? FIRST_COMMENT : NEXT_COMMENT, comments[i]);
+    head.ascii(`],"format":1,"goal":"${goal}","lang":"${lang}","rows":[`);
+    return head.buffer.subarray(0, head.end);
+  }
+
+  // The source as a string. The bytes of its text have it but for a mark before it.
+  putSource(source) {
+    const { bytes, offsets } = this;
+    if (offsets.mayLackHalves) return bytes.string(JSON.stringify(source));
+    bytes.ascii('"');
+    if (offsets.shift > 0) bytes.string(MARK);
+    const escapes = offsets.utf8.length >> FEW_ESCAPES;
+    bytes.reserve(offsets.utf8.length + escapes + WORD);
+    const end = offsets.utf8.copyEscaped(bytes.view, bytes.end, escapes);
+    if (end === -1) {
+      bytes.string(JSON.stringify(offsets.text).slice(1));
+    } else {
+      bytes.end = end;
+      bytes.ascii('"');
+    }
+  }
+
   // The whole text of the tree, as bytes.
   finish({ source, goal, lang, comments }) {
-    const { bytes, offsets } = this;
+    const { bytes } = this;
     this.last = bytes.end;
-    const head = Buffer.from(`{"comments":[${comments.join(',')}],"format":1,"goal":"${goal}","lang":"${lang}","rows":[`);
+    const head = this.headOf({ goal, lang, comments });
     bytes.ascii('],"source":');
-    const text = JSON.stringify(source);
-    if (offsets.isAscii) bytes.ascii(text);
-    else bytes.string(text);
+    this.putSource(source);
     bytes.ascii('}');
     if (head.length + bytes.end - this.start > MOST_BYTES) throw new Refusal('too large');
     if (head.length > this.start) return Buffer.concat([head, bytes.buffer.subarray(this.start, bytes.end)]);

@@ -3,7 +3,7 @@
 
 const { skipTrivia, afterWords } = require('../trivia');
 const { visit, each, byType, plain, marksOf, marksOfTwo, typeArgumentsOf } = require('./visit');
-const { DECLARATIONS } = require('./statements');
+const { addDeclarations } = require('./statements');
 
 visit.decorator = plain('Decorator', { expression: 'expression' });
 
@@ -15,7 +15,7 @@ function heritageOf({ superClass, superTypeArguments, superTypeParameters }) {
 
 visit.class = (c, role, node, text) => {
   const start = classStart(c, node);
-  c.writer.open(role, 'Class', start, c.end(node), text, marksOfTwo('declare', node.declare, 'abstract', node.abstract));
+  c.openAt(role, 'Class', start, c.end(node), text, marksOfTwo('declare', node.declare, 'abstract', node.abstract));
   each(c, 'decorators', node.decorators, 'decorator');
   each(c, 'id', node.id, 'bindingName');
   each(c, 'typeParameters', node.typeParameters, 'typeParameters');
@@ -107,4 +107,4 @@ visit.classElement = byType(ELEMENTS, 'a member of a class');
 
 visit.classDeclaration = (c, role, node) => visit.class(c, role, node, 'declaration');
 visit.classExpression = (c, role, node) => visit.class(c, role, node, 'expression');
-DECLARATIONS.ClassDeclaration = visit.classDeclaration;
+addDeclarations({ ClassDeclaration: visit.classDeclaration });

@@ -2,7 +2,7 @@
 // Declarations of TypeScript, as typescript-eslint and Babel give them: aliases, interfaces, enums, namespaces and modules.
 
 const { visit, each, plain, marksOf } = require('./visit');
-const { STATEMENTS, DECLARATIONS } = require('./statements');
+const { STATEMENTS, addDeclarations } = require('./statements');
 
 function enumMember(c, role, node) {
   c.open(role, 'TSEnumMember', node, '', marksOf({ computed: node.computed }));
@@ -18,7 +18,7 @@ function enumBody(c, node) {
   const body = node.body || node;
   const [first] = body.members;
   const start = node.body ? c.start(body) : c.text.lastIndexOf('{', first ? c.start(first) : c.end(node));
-  c.writer.open('body', 'TSEnumBody', start, c.end(node));
+  c.openAt('body', 'TSEnumBody', start, c.end(node));
   each(c, 'members', body.members, 'enumMember');
   c.close();
 }
@@ -32,7 +32,7 @@ visit.moduleBlock = moduleBlock;
 
 // A name with dots is one namespace in another, also where the dialect has them as one qualified name.
 function namespace(c, role, node, names, start) {
-  c.writer.open(role, 'TSNamespaceDeclaration', start, c.end(node), '', marksOf({ declare: node.declare }));
+  c.openAt(role, 'TSNamespaceDeclaration', start, c.end(node), '', marksOf({ declare: node.declare }));
   visit.bindingName(c, 'id', names[0]);
   if (names.length > 1) namespace(c, 'body', { ...node, declare: false }, names.slice(1), c.start(names[1]));
   else if (node.body.type === 'TSModuleBlock') moduleBlock(c, 'body', node.body);
@@ -73,7 +73,7 @@ function importEquals(c, role, node) {
   c.close();
 }
 
-Object.assign(DECLARATIONS, {
+addDeclarations({
   TSTypeAliasDeclaration(c, role, node) {
     c.open(role, 'TSTypeAliasDeclaration', node, '', marksOf({ declare: node.declare }));
     visit.bindingName(c, 'id', node.id);

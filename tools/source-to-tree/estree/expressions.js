@@ -2,17 +2,23 @@
 // Expressions.
 
 const { skipTrivia } = require('../trivia');
+const { kindOf } = require('../kinds');
 const { visit, each, plain, markOf, marksOf, marksOfTwo, typeArgumentsOf } = require('./visit');
 const { BABEL_LITERALS } = require('./literals');
 
 visit.template = plain('TemplateLiteral', { quasis: 'templateElement', expressions: 'expression' });
 visit.spread = plain('SpreadElement', { argument: 'expression' });
 
-visit.argument = (c, role, node) => visit[node.type === 'SpreadElement' ? 'spread' : 'expression'](c, role, node);
-visit.callee = (c, role, node) => {
-  if (node.type === 'Super') c.leaf(role, 'Super', node);
-  else visit.expression(c, role, node);
+visit.argument = (c, role, node) => {
+  const type = node.type;
+  if (type === 'SpreadElement') visit.spread(c, role, node);
+  else expressionOf(c, role, node, type);
 };
+function calleeOf(c, role, node, type) {
+  if (type === 'Super') c.leaf(role, 'Super', node);
+  else expressionOf(c, role, node, type);
+}
+visit.callee = (c, role, node) => calleeOf(c, role, node, node.type);
 
 // The elements of an array, its holes told by the places of their commas.
 function holedElements(c, node) {
@@ -20,7 +26,7 @@ function holedElements(c, node) {
   for (const element of node.elements) {
     if (element === null) {
       at = skipTrivia(c.text, at);
-      c.writer.leaf('elements', 'Elision', at, at);
+      c.leafAt('elements', 'Elision', at, at);
       at += 1;
       continue;
     }
@@ -30,22 +36,25 @@ function holedElements(c, node) {
   }
 }
 
+const ARRAY = kindOf('ArrayExpression');
 function array(c, role, node) {
-  c.open(role, 'ArrayExpression', node);
-  if (node.elements.includes(null)) holedElements(c, node);
-  else for (const element of node.elements) visit.argument(c, 'elements', element);
-  c.close();
+  const { elements } = node;
+  c.writer.open(role, ARRAY, node.start, node.end);
+  if (elements.includes(null)) holedElements(c, node);
+  else for (let i = 0; i < elements.length; i++) visit.argument(c, 'elements', elements[i]);
+  c.writer.close();
 }
 
 function propertyMarks({ shorthand, computed }, method) {
   return method && shorthand ? marksOf({ method, shorthand, computed }) : marksOfTwo(method ? 'method' : 'shorthand', method || shorthand, 'computed', computed);
 }
 
+const PROPERTY = kindOf('ObjectProperty');
 function objectProperty(c, role, node) {
   if (node.type === 'SpreadElement' || node.type === 'SpreadProperty') return visit.spread(c, role, node);
   const kind = node.kind === 'get' || node.kind === 'set' ? node.kind : 'init';
   const isMethod = node.method || node.kind === 'method';
-  c.open(role, 'ObjectProperty', node, kind, propertyMarks(node, isMethod));
+  c.writer.open(role, PROPERTY, node.start, node.end, kind, propertyMarks(node, isMethod));
   visit.key(c, 'key', node.key, node.computed);
   if (isMethod || kind !== 'init') visit.methodValue(c, 'value', node.value || node, visit.methodStart(c, node));
   else visit.expression(c, 'value', node.value);
@@ -63,14 +72,17 @@ function importCall(c, role, node) {
   c.close();
 }
 
+const CALL = kindOf('CallExpression');
 function call(c, role, node) {
-  if (node.callee.type === 'Import') return importCall(c, role, node);
-  const pure = c.annotations.takesPure(c.start(node));
-  c.open(role, 'CallExpression', node, '', marksOfTwo('optional', node.optional, 'pure', pure));
-  base(c, 'callee', node, node.callee);
-  each(c, 'typeArguments', typeArgumentsOf(node), 'typeArguments');
-  each(c, 'arguments', node.arguments, 'argument');
-  c.close();
+  const { start, end, callee, arguments: given } = node;
+  const calleeType = callee.type;
+  if (calleeType === 'Import') return importCall(c, role, node);
+  c.writer.open(role, CALL, start, end, '', marksOfTwo('optional', node.optional, 'pure', c.annotations.takesPure(start)));
+  base(c, 'callee', node, callee, calleeType);
+  const types = node.typeArguments || node.typeParameters;
+  if (types) visit.typeArguments(c, 'typeArguments', types);
+  if (given) for (let i = 0; i < given.length; i++) visit.argument(c, 'arguments', given[i]);
+  c.writer.close();
 }
 
 function construct(c, role, node) {
@@ -81,23 +93,29 @@ function construct(c, role, node) {
   c.close();
 }
 
+const COMPUTED_MEMBER = kindOf('ComputedMemberExpression');
+const STATIC_MEMBER = kindOf('StaticMemberExpression');
+const PRIVATE_FIELD = kindOf('PrivateFieldExpression');
 function member(c, role, node) {
+  const { start, end, object, property } = node;
   const marks = markOf('optional', node.optional);
   if (node.computed) {
-    c.open(role, 'ComputedMemberExpression', node, '', marks);
-    base(c, 'object', node, node.object);
-    visit.expression(c, 'expression', node.property);
-  } else if (node.property.type === 'Identifier') {
-    c.open(role, 'StaticMemberExpression', node, '', marks);
-    base(c, 'object', node, node.object);
-    visit.name(c, 'property', node.property);
+    c.writer.open(role, COMPUTED_MEMBER, start, end, '', marks);
+    base(c, 'object', node, object, object.type);
+    visit.expression(c, 'expression', property);
+  } else if (property.type === 'Identifier') {
+    c.writer.open(role, STATIC_MEMBER, start, end, '', marks);
+    base(c, 'object', node, object, object.type);
+    visit.name(c, 'property', property);
   } else {
-    c.open(role, 'PrivateFieldExpression', node, '', marks);
-    base(c, 'object', node, node.object);
-    visit.privateName(c, 'field', node.property);
+    c.writer.open(role, PRIVATE_FIELD, start, end, '', marks);
+    base(c, 'object', node, object, object.type);
+    visit.privateName(c, 'field', property);
   }
-  c.close();
+  c.writer.close();
 }
+
+visit.member = member;
 
 // Babel has no node for a chain, but links of their own types.
 const LINKS = { OptionalMemberExpression: member, OptionalCallExpression: call };
@@ -112,9 +130,9 @@ const isLinkType = (type) => type === 'OptionalMemberExpression' || type === 'Op
 const isLink = (node) => isLinkType(node.type) || (node.type === 'TSNonNullExpression' && isLink(node.expression));
 
 // What a call or member expression stands on: where it is a link, the chain goes on.
-function base(c, role, outer, node) {
+function base(c, role, outer, node, type) {
   if (isLinkType(outer.type) && isLink(node)) link(c, role, node);
-  else visit.callee(c, role, node);
+  else calleeOf(c, role, node, type);
 }
 
 function link(c, role, node) {
@@ -124,33 +142,62 @@ function link(c, role, node) {
   c.close();
 }
 
+const BINARY = kindOf('BinaryExpression');
 function binary(c, role, node) {
-  if (node.left.type === 'PrivateIdentifier' || node.left.type === 'PrivateName') {
+  const { left } = node;
+  const type = left.type;
+  if (type === 'PrivateIdentifier' || type === 'PrivateName') {
     c.open(role, 'PrivateInExpression', node);
-    visit.privateName(c, 'left', node.left);
+    visit.privateName(c, 'left', left);
   } else {
-    c.open(role, 'BinaryExpression', node, node.operator);
-    visit.expression(c, 'left', node.left);
+    c.writer.open(role, BINARY, node.start, node.end, node.operator);
+    expressionOf(c, 'left', left, type);
   }
   visit.expression(c, 'right', node.right);
-  c.close();
+  c.writer.close();
 }
 
-// An expression of two with its operator as text.
-function operation(kind, left) {
-  return (c, role, node) => {
-    c.open(role, kind, node, node.operator);
-    visit[left](c, 'left', node.left);
-    visit.expression(c, 'right', node.right);
-    c.close();
-  };
+const LOGICAL = kindOf('LogicalExpression');
+function logical(c, role, node) {
+  c.writer.open(role, LOGICAL, node.start, node.end, node.operator);
+  visit.expression(c, 'left', node.left);
+  visit.expression(c, 'right', node.right);
+  c.writer.close();
 }
 
+const ASSIGNMENT = kindOf('AssignmentExpression');
+function assignment(c, role, node) {
+  c.writer.open(role, ASSIGNMENT, node.start, node.end, node.operator);
+  visit.target(c, 'left', node.left);
+  visit.expression(c, 'right', node.right);
+  c.writer.close();
+}
+
+const CONDITIONAL = kindOf('ConditionalExpression');
+function conditional(c, role, node) {
+  c.writer.open(role, CONDITIONAL, node.start, node.end);
+  visit.expression(c, 'test', node.test);
+  visit.expression(c, 'consequent', node.consequent);
+  visit.expression(c, 'alternate', node.alternate);
+  c.writer.close();
+}
+
+const PARENTHESIZED = kindOf('ParenthesizedExpression');
+function parenthesized(c, role, node) {
+  c.writer.open(role, PARENTHESIZED, node.start, node.end);
+  visit.expression(c, 'expression', node.expression);
+  c.writer.close();
+}
+
+const UNARY = kindOf('UnaryExpression');
 function unary(c, role, node) {
-  c.open(role, 'UnaryExpression', node, node.operator);
+  c.writer.open(role, UNARY, node.start, node.end, node.operator);
   visit.expression(c, 'argument', node.argument);
-  c.close();
+  c.writer.close();
 }
+
+const THIS = kindOf('ThisExpression');
+const thisExpression = (c, role, node) => c.writer.leaf(role, THIS, node.start, node.end);
 
 function update(c, role, node) {
   c.open(role, 'UpdateExpression', node, node.operator, markOf('prefix', node.prefix));
@@ -197,7 +244,7 @@ const EXPRESSIONS = {
     visit.template(c, 'quasi', node.quasi);
     c.close();
   },
-  ThisExpression: plain('ThisExpression'),
+  ThisExpression: thisExpression,
   MetaProperty: plain('MetaProperty', { meta: 'name', property: 'name' }),
   ArrayExpression: array,
   ObjectExpression: visit.object,
@@ -211,11 +258,11 @@ const EXPRESSIONS = {
   UnaryExpression: unary,
   UpdateExpression: update,
   BinaryExpression: binary,
-  LogicalExpression: operation('LogicalExpression', 'expression'),
-  ConditionalExpression: plain('ConditionalExpression', { test: 'expression', consequent: 'expression', alternate: 'expression' }),
-  AssignmentExpression: operation('AssignmentExpression', 'target'),
+  LogicalExpression: logical,
+  ConditionalExpression: conditional,
+  AssignmentExpression: assignment,
   SequenceExpression: plain('SequenceExpression', { expressions: 'expression' }),
-  ParenthesizedExpression: plain('ParenthesizedExpression', { expression: 'expression' }),
+  ParenthesizedExpression: parenthesized,
   AwaitExpression: plain('AwaitExpression', { argument: 'expression' }),
   YieldExpression: yieldExpression,
   ArrowFunctionExpression: (c, role, node) => visit.arrow(c, role, node),
@@ -228,10 +275,15 @@ const EXPRESSIONS = {
   TSInstantiationExpression: instantiation,
 };
 
-visit.expression = (c, role, node) => {
-  const visitor = EXPRESSIONS[node.type];
-  if (visitor === undefined) c.refuse(node, `${node.type} can't be an expression`);
-  visitor(c, role, node);
-};
+// Half of all expressions are of two types, for which the table isn't asked.
+function expressionOf(c, role, node, type) {
+  if (type === 'Identifier') return visit.reference(c, role, node);
+  if (type === 'MemberExpression') return member(c, role, node);
+  const visitor = EXPRESSIONS[type];
+  if (visitor === undefined) c.refuse(node, `${type} can't be an expression`);
+  return visitor(c, role, node);
+}
+
+visit.expression = (c, role, node) => expressionOf(c, role, node, node.type);
 
 module.exports = { EXPRESSIONS };

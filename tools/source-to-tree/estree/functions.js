@@ -2,8 +2,9 @@
 // Functions, arrows and their parameters.
 
 const { skipTrivia, openParenthesis, closingEnd, nameEnd } = require('../trivia');
+const { kindOf } = require('../kinds');
 const { visit, each, markOf, marksOf, marksOfTwo } = require('./visit');
-const { DECLARATIONS } = require('./statements');
+const { addDeclarations } = require('./statements');
 
 const isThis = (node) => node !== undefined && node.type === 'Identifier' && node.name === 'this';
 
@@ -33,13 +34,14 @@ const NO_DECORATORS = [];
 
 // A parameter begins at its decorators, which some dialects leave out of its span.
 function openParameter(c, role, kind, node, decorators, marks) {
-  const start = decorators.length > 0 ? Math.min(c.start(decorators[0]), c.start(node)) : c.start(node);
-  c.writer.open(role, kind, start, c.end(node), '', marks);
+  const start = decorators.length > 0 ? Math.min(c.start(decorators[0]), node.start) : node.start;
+  c.writer.open(role, kind, start, node.end, '', marks);
   each(c, 'decorators', decorators, 'decorator');
 }
 
+const REST = kindOf('FormalParameterRest');
 function restParameter(c, role, node) {
-  openParameter(c, role, 'FormalParameterRest', node, node.decorators || NO_DECORATORS);
+  openParameter(c, role, REST, node, node.decorators || NO_DECORATORS);
   visit.bindingRest(c, 'rest', node);
   each(c, 'type', node.typeAnnotation, 'typeAnnotation');
   c.close();
@@ -50,26 +52,28 @@ function propertyMarks({ accessibility, readonly, override }, optional) {
   return marksOf({ [accessibility]: accessibility, readonly, override, optional });
 }
 
+const PARAMETER = kindOf('FormalParameter');
 function parameter(c, role, outer) {
   const inner = outer.type === 'TSParameterProperty' ? outer.parameter : outer;
   const withDefault = inner.type === 'AssignmentPattern';
   const pattern = withDefault ? inner.left : inner;
   const optional = pattern.optional || inner.optional;
   const marks = inner === outer ? markOf('optional', optional) : propertyMarks(outer, optional);
-  openParameter(c, role, 'FormalParameter', outer, outer.decorators || inner.decorators || NO_DECORATORS, marks);
+  openParameter(c, role, PARAMETER, outer, outer.decorators || inner.decorators || NO_DECORATORS, marks);
   visit.binding(c, 'pattern', pattern);
   each(c, 'type', pattern.typeAnnotation, 'typeAnnotation');
   each(c, 'initializer', withDefault ? inner.right : null, 'expression');
   c.close();
 }
 
+const PARAMETERS = kindOf('FormalParameters');
 function formalParameters(c, [start, end], text, params) {
-  c.writer.open('params', 'FormalParameters', start, end, text);
+  c.writer.open('params', PARAMETERS, start, end, text);
   for (const param of params) {
     if (param.type === 'RestElement') restParameter(c, 'rest', param);
     else parameter(c, 'items', param);
   }
-  c.close();
+  c.writer.close();
 }
 
 // Type parameters, `this`, parameters and return type. The list of parameters begins at or after `from`.
@@ -87,11 +91,12 @@ visit.signature = (c, node, text, from = beforeParameters(c, node)) => {
   each(c, 'returnType', node.returnType || node.typeAnnotation, 'typeAnnotation');
 };
 
+const BODY = kindOf('FunctionBody');
 function functionBody(c, node) {
   if (!node) return;
-  c.open('body', 'FunctionBody', node);
+  c.writer.open('body', BODY, node.start, node.end);
   c.within(false, visit.body, node);
-  c.close();
+  c.writer.close();
 }
 
 function functionMarks({ async, generator, declare }, pure) {
@@ -100,14 +105,15 @@ function functionMarks({ async, generator, declare }, pure) {
 }
 
 // A function with the text given; its list of parameters is unique where it is a method's.
-function writeFunction(c, role, node, { text, list = 'formal', start = c.start(node) }) {
+const FUNCTION = kindOf('Function');
+function writeFunction(c, role, node, { text, list = 'formal', start = node.start }) {
   const pure = text !== 'ts-empty-body' && c.annotations.takesNoSideEffects(start);
   const marks = functionMarks(node, pure);
-  c.writer.open(role, 'Function', start, c.end(node), text, marks);
+  c.writer.open(role, FUNCTION, start, node.end, text, marks);
   if (list === 'formal') each(c, 'id', node.id, 'bindingName');
   visit.signature(c, node, list, list === 'formal' ? undefined : afterTypes(c, node, start));
   functionBody(c, node.body);
-  c.close();
+  c.writer.close();
 }
 
 const afterTypes = (c, node, start) => (node.typeParameters ? c.end(node.typeParameters) : start);
@@ -130,5 +136,4 @@ visit.arrow = (c, role, node) => {
   c.close();
 };
 
-DECLARATIONS.FunctionDeclaration = visit.functionDeclaration;
-DECLARATIONS.TSDeclareFunction = visit.functionDeclaration;
+addDeclarations({ FunctionDeclaration: visit.functionDeclaration, TSDeclareFunction: visit.functionDeclaration });

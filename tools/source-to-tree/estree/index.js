@@ -1,6 +1,7 @@
 'use strict';
 // From an ESTree, plain or in the dialects of Babel and typescript-eslint, to the rows of a tree.
 
+const { kindOf } = require('../kinds');
 const { Refusal } = require('../refusal');
 const { nameEnd } = require('../trivia');
 const { visit } = require('./visit');
@@ -50,16 +51,30 @@ class EstreeConversion {
     return node.type === 'Identifier' ? this.nameEnd(this.start(node)) : this.end(node);
   }
 
-  open(role, kind, node, text, marks) {
-    this.writer.open(role, kind, node.start, node.end, text, marks);
+  // Of a kind that few nodes are of. Visitors of the others have their kind at hand, and give it to the writer themselves.
+  open(role, name, node, text, marks) {
+    this.writer.open(role, kindOf(name), node.start, node.end, text, marks);
+  }
+
+  openAt(role, name, start, end, text, marks) {
+    this.writer.open(role, kindOf(name), start, end, text, marks);
   }
 
   close() {
     this.writer.close();
   }
 
-  leaf(role, kind, node, text, marks) {
-    this.writer.leaf(role, kind, node.start, node.end, text, marks);
+  leaf(role, name, node, text, marks) {
+    this.writer.leaf(role, kindOf(name), node.start, node.end, text, marks);
+  }
+
+  leafAt(role, name, start, end, text, marks) {
+    this.writer.leaf(role, kindOf(name), start, end, text, marks);
+  }
+
+  // A leaf whose text the source has between so many marks on each side, unless that is spelled with escapes.
+  spelled(role, kind, start, end, marksRound, text, marks) {
+    this.writer.spelled(role, kind, start, end, marksRound, text, marks);
   }
 
   refuse(node, message) {
@@ -72,23 +87,11 @@ class EstreeConversion {
   }
 }
 
-// A tree of another tool. Where a node has both, `range` is what tools keep right.
-class RangedConversion extends EstreeConversion {
-  start(node) {
-    return node.range !== undefined ? node.range[0] : node.start;
-  }
-
-  end(node) {
-    return node.range !== undefined ? node.range[1] : node.end;
-  }
-
-  open(role, kind, node, text, marks) {
-    this.writer.open(role, kind, this.start(node), this.end(node), text, marks);
-  }
-
-  leaf(role, kind, node, text, marks) {
-    this.writer.leaf(role, kind, this.start(node), this.end(node), text, marks);
+// A tree of another tool, whose texts needn't be those of the source.
+class ForeignConversion extends EstreeConversion {
+  spelled(role, kind, start, end, marksRound, text, marks) {
+    this.writer.leaf(role, kind, start, end, text, marks);
   }
 }
 
-module.exports = { EstreeConversion, RangedConversion };
+module.exports = { EstreeConversion, ForeignConversion };

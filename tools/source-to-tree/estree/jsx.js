@@ -81,7 +81,7 @@ function fragment(c, role, node) {
 
 function container(c, role, node) {
   c.open(role, 'JSXExpressionContainer', node);
-  if (node.expression.type === 'JSXEmptyExpression') c.writer.leaf('expression', 'JSXEmptyExpression', c.start(node) + 1, c.end(node) - 1);
+  if (node.expression.type === 'JSXEmptyExpression') c.leafAt('expression', 'JSXEmptyExpression', c.start(node) + 1, c.end(node) - 1);
   else visit.expression(c, 'expression', node.expression);
   c.close();
 }

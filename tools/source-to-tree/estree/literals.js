@@ -2,20 +2,28 @@
 // Literals and templates. Babel has a type for each kind of literal, ESTree one for all.
 
 const { wholeCharacters, withLineFeeds, numberBase } = require('../texts');
+const { kindOf } = require('../kinds');
 const { visit } = require('./visit');
 
-function spelled(c, role, node, kind, marks) {
-  const raw = c.text.slice(c.start(node), c.end(node));
-  c.leaf(role, kind, node, raw, marks && marks(raw));
+const STRING = kindOf('StringLiteral');
+const NUMBER = kindOf('NumericLiteral');
+const BOOLEAN = kindOf('BooleanLiteral');
+
+const spelling = (c, { start, end }) => c.text.slice(start, end);
+
+function number(c, role, node) {
+  const { start, end } = node;
+  const raw = c.text.slice(start, end);
+  c.spelled(role, NUMBER, start, end, 0, raw, [numberBase(raw)]);
 }
 
 const LITERALS = {
-  string: (c, role, node) => c.leaf(role, 'StringLiteral', node, wholeCharacters(node.value)),
-  number: (c, role, node) => spelled(c, role, node, 'NumericLiteral', (raw) => [numberBase(raw)]),
-  boolean: (c, role, node) => c.leaf(role, 'BooleanLiteral', node, String(node.value)),
+  string: (c, role, node) => c.spelled(role, STRING, node.start, node.end, 1, wholeCharacters(node.value)),
+  number,
+  boolean: (c, role, node) => c.writer.leaf(role, BOOLEAN, node.start, node.end, node.value ? 'true' : 'false'),
   null: (c, role, node) => c.leaf(role, 'NullLiteral', node),
-  bigint: (c, role, node) => spelled(c, role, node, 'BigIntLiteral'),
-  regex: (c, role, node) => spelled(c, role, node, 'RegExpLiteral'),
+  bigint: (c, role, node) => c.leaf(role, 'BigIntLiteral', node, spelling(c, node)),
+  regex: (c, role, node) => c.leaf(role, 'RegExpLiteral', node, spelling(c, node)),
 };
 
 const BABEL_LITERALS = {
@@ -54,7 +62,7 @@ visit.templateElement = (c, role, node) => {
   const { cooked, raw } = node.value;
   const [start, end] = pieceSpan(c, node);
   const text = cooked === null || cooked === undefined ? withLineFeeds(raw) : cooked;
-  c.writer.leaf(role, 'TemplateElement', start, end, wholeCharacters(text));
+  c.leafAt(role, 'TemplateElement', start, end, wholeCharacters(text));
 };
 
 module.exports = { BABEL_LITERALS };

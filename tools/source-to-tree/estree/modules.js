@@ -44,7 +44,7 @@ function source(c, node) {
   const last = entries && entries[entries.length - 1];
   const brace = skipTrivia(c.text, nameEnd(c.text, start));
   if (c.text[brace] !== '{') return;
-  c.writer.open('attributes', 'WithClause', start, closingEnd(c.text, last ? c.end(last) : brace + 1, '}'));
+  c.openAt('attributes', 'WithClause', start, closingEnd(c.text, last ? c.end(last) : brace + 1, '}'));
   each(c, 'entries', entries, 'attribute');
   c.close();
 }

@@ -1,14 +1,15 @@
 'use strict';
 // Identifiers, by what they are where they stand, and the keys of members.
 
+const { kindOf } = require('../kinds');
 const { visit, byType } = require('./visit');
 
-function identifier(kind) {
+function identifier(name) {
+  const kind = kindOf(name);
   return (c, role, node) => {
     if (node.type !== 'Identifier') c.refuse(node, `${node.type} can't be a name`);
-    const start = c.start(node);
     const annotated = node.typeAnnotation || node.optional;
-    c.writer.leaf(role, kind, start, annotated ? c.nameEnd(start) : c.end(node), node.name);
+    c.spelled(role, kind, node.start, annotated ? c.nameEnd(node.start) : node.end, 0, node.name);
   };
 }
 
@@ -17,7 +18,11 @@ visit.reference = identifier('IdentifierReference');
 visit.label = identifier('LabelIdentifier');
 
 // A plain name; a keyword or a name of JSX too.
-visit.name = (c, role, node) => c.leaf(role, 'IdentifierName', node, node.name);
+const NAME = kindOf('IdentifierName');
+visit.name = (c, role, node) => {
+  if (node.typeAnnotation || node.optional) c.leaf(role, 'IdentifierName', node, node.name);
+  else c.spelled(role, NAME, node.start, node.end, 0, node.name);
+};
 
 visit.privateName = (c, role, node) => c.leaf(role, 'PrivateIdentifier', node, node.name || node.id.name);
 

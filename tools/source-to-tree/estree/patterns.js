@@ -14,7 +14,7 @@ function patternEnd(c, node, list, mark) {
 }
 
 function openPattern(c, role, kind, node, list, mark) {
-  c.writer.open(role, kind, c.start(node), patternEnd(c, node, list, mark));
+  c.openAt(role, kind, c.start(node), patternEnd(c, node, list, mark));
 }
 
 function bindingProperty(c, role, node) {
@@ -25,7 +25,7 @@ function bindingProperty(c, role, node) {
 }
 
 visit.bindingRest = (c, role, node) => {
-  c.writer.open(role, 'BindingRestElement', c.start(node), node.typeAnnotation ? c.bindingEnd(node.argument) : c.end(node));
+  c.openAt(role, 'BindingRestElement', c.start(node), node.typeAnnotation ? c.bindingEnd(node.argument) : c.end(node));
   visit.binding(c, 'argument', node.argument);
   c.close();
 };
@@ -51,7 +51,8 @@ const BINDINGS = {
   },
   AssignmentPattern: plain('AssignmentPattern', { left: 'binding', right: 'expression' }),
 };
-visit.binding = byType(BINDINGS, 'a pattern');
+const patternOf = byType(BINDINGS, 'a pattern');
+visit.binding = (c, role, node) => (node.type === 'Identifier' ? visit.bindingName : patternOf)(c, role, node);
 
 function targetProperty(c, role, node) {
   if (node.shorthand) {
@@ -77,7 +78,7 @@ function targetRest(c, role, node) {
 const expression = (c, role, node) => visit.expression(c, role, node);
 const TARGETS = {
   Identifier: (c, role, node) => visit.reference(c, role, node),
-  MemberExpression: expression,
+  MemberExpression: (c, role, node) => visit.member(c, role, node),
   TSAsExpression: expression,
   TSSatisfiesExpression: expression,
   TSTypeAssertion: expression,
@@ -101,7 +102,13 @@ const TARGETS = {
     c.close();
   },
 };
-visit.target = byType(TARGETS, 'assigned to');
+const targetOf = byType(TARGETS, 'assigned to');
+visit.target = (c, role, node) => {
+  const type = node.type;
+  if (type === 'Identifier') visit.reference(c, role, node);
+  else if (type === 'MemberExpression') visit.member(c, role, node);
+  else targetOf(c, role, node);
+};
 
 visit.targetOrDefault = (c, role, node) => {
   if (node.type !== 'AssignmentPattern') return visit.target(c, role, node);

@@ -1,6 +1,7 @@
 'use strict';
 // Statements, directives and declarations of variables.
 
+const { kindOf } = require('../kinds');
 const { visit, each, plain, byType, markOf } = require('./visit');
 
 // Babel says of no statement in a namespace that it is a directive.
@@ -29,7 +30,29 @@ visit.body = (c, node) => {
 };
 visit.directive = directive;
 
-visit.block = plain('BlockStatement', { body: 'statement' });
+const BLOCK = kindOf('BlockStatement');
+visit.block = (c, role, node) => {
+  const { body } = node;
+  c.writer.open(role, BLOCK, node.start, node.end);
+  for (let i = 0; i < body.length; i++) visit.statement(c, 'body', body[i]);
+  c.writer.close();
+};
+
+const EXPRESSION = kindOf('ExpressionStatement');
+function expressionStatement(c, role, node) {
+  c.writer.open(role, EXPRESSION, node.start, node.end);
+  visit.expression(c, 'expression', node.expression);
+  c.writer.close();
+}
+
+const IF = kindOf('IfStatement');
+function ifStatement(c, role, node) {
+  c.writer.open(role, IF, node.start, node.end);
+  visit.expression(c, 'test', node.test);
+  visit.statement(c, 'consequent', node.consequent);
+  if (node.alternate) visit.statement(c, 'alternate', node.alternate);
+  c.writer.close();
+}
 
 function forOf(c, role, node) {
   c.open(role, 'ForOfStatement', node, '', markOf('await', node.await));
@@ -39,20 +62,24 @@ function forOf(c, role, node) {
   c.close();
 }
 
+const VARIABLES = kindOf('VariableDeclaration');
 visit.variables = (c, role, node) => {
-  const [first] = node.declarations;
-  if (node.kind === 'const' && first.init) c.annotations.passOn(c.start(node), c.start(first.init));
-  c.open(role, 'VariableDeclaration', node, node.kind, markOf('declare', node.declare));
-  each(c, 'declarators', node.declarations, 'declarator');
-  c.close();
+  const { start, end, kind, declarations } = node;
+  const [first] = declarations;
+  if (kind === 'const' && first.init) c.annotations.passOn(start, first.init.start);
+  c.writer.open(role, VARIABLES, start, end, kind, markOf('declare', node.declare));
+  for (let i = 0; i < declarations.length; i++) visit.declarator(c, 'declarators', declarations[i]);
+  c.writer.close();
 };
 
+const DECLARATOR = kindOf('VariableDeclarator');
 visit.declarator = (c, role, node) => {
-  c.open(role, 'VariableDeclarator', node, '', markOf('definite', node.definite));
-  visit.binding(c, 'id', node.id);
-  each(c, 'type', node.id.typeAnnotation, 'typeAnnotation');
-  each(c, 'init', node.init, 'expression');
-  c.close();
+  const { id, init } = node;
+  c.writer.open(role, DECLARATOR, node.start, node.end, '', markOf('definite', node.definite));
+  visit.binding(c, 'id', id);
+  if (id.typeAnnotation) visit.typeAnnotation(c, 'type', id.typeAnnotation);
+  if (init) visit.expression(c, 'init', init);
+  c.writer.close();
 };
 
 const isVariables = (node) => node.type === 'VariableDeclaration';
@@ -74,18 +101,20 @@ visit.catchClause = catchClause;
 visit.switchCase = plain('SwitchCase', { test: 'expression', consequent: 'statement' });
 
 // A program may have it outside of functions; a static block never has.
-const plainReturn = plain('ReturnStatement', { argument: 'expression' });
+const RETURN = kindOf('ReturnStatement');
 function returnStatement(c, role, node) {
   if (c.isInStaticBlock) c.refuse(node, "'return' outside of function");
-  plainReturn(c, role, node);
+  c.writer.open(role, RETURN, node.start, node.end);
+  if (node.argument) visit.expression(c, 'argument', node.argument);
+  c.writer.close();
 }
 
 const STATEMENTS = {
   BlockStatement: visit.block,
   EmptyStatement: plain('EmptyStatement'),
   DebuggerStatement: plain('DebuggerStatement'),
-  ExpressionStatement: plain('ExpressionStatement', { expression: 'expression' }),
-  IfStatement: plain('IfStatement', { test: 'expression', consequent: 'statement', alternate: 'statement' }),
+  ExpressionStatement: expressionStatement,
+  IfStatement: ifStatement,
   DoWhileStatement: plain('DoWhileStatement', { body: 'statement', test: 'expression' }),
   WhileStatement: plain('WhileStatement', { test: 'expression', body: 'statement' }),
   ForStatement: plain('ForStatement', { init: 'loopInit', test: 'expression', update: 'expression', body: 'statement' }),
@@ -101,14 +130,22 @@ const STATEMENTS = {
   TryStatement: plain('TryStatement', { block: 'block', handler: 'catchClause', finalizer: 'block' }),
 };
 
-// Those that may be exported; other families add theirs.
-const DECLARATIONS = { VariableDeclaration: visit.variables };
+// Those that may be exported.
+const DECLARATIONS = {};
+
+// Other families add theirs, which are statements, too.
+function addDeclarations(visitors) {
+  Object.assign(DECLARATIONS, visitors);
+  Object.assign(STATEMENTS, visitors);
+}
+addDeclarations({ VariableDeclaration: visit.variables });
 
 visit.declaration = byType(DECLARATIONS, 'a declaration');
 visit.statement = (c, role, node) => {
-  const visitor = STATEMENTS[node.type] || DECLARATIONS[node.type];
-  if (visitor === undefined) c.refuse(node, `${node.type} can't be a statement`);
+  const type = node.type;
+  const visitor = STATEMENTS[type];
+  if (visitor === undefined) c.refuse(node, `${type} can't be a statement`);
   visitor(c, role, node);
 };
 
-module.exports = { STATEMENTS, DECLARATIONS };
+module.exports = { STATEMENTS, addDeclarations };

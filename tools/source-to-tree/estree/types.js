@@ -30,7 +30,7 @@ visit.typeParameter = (c, role, node) => {
 
 function bareName(c, node) {
   const start = afterWords(c.text, c.start(node), /^(?:const|in|out)$/);
-  c.writer.leaf('name', 'BindingIdentifier', start, start + node.name.length, node.name);
+  c.leafAt('name', 'BindingIdentifier', start, start + node.name.length, node.name);
 }
 
 function qualified(left, right) {
@@ -51,7 +51,7 @@ visit.entity = byType({
 
 // A member of a type, without the mark that parts it from the next.
 function openMember(c, role, kind, node, text, marks) {
-  c.writer.open(role, kind, c.start(node), withoutSeparator(c.text, c.end(node)), text, marks);
+  c.openAt(role, kind, c.start(node), withoutSeparator(c.text, c.end(node)), text, marks);
 }
 
 // Where the list of parameters of a member begins: behind its key and the mark of an optional one.
@@ -137,7 +137,7 @@ function mappedType(c, role, node) {
   c.open(role, 'TSMappedType', node, '', marksOf({ optional: adds(node.optional), readonly: adds(node.readonly) }));
   if (typeParameter && typeof typeParameter.name === 'string') {
     const start = c.start(typeParameter);
-    c.writer.leaf('key', 'BindingIdentifier', start, start + typeParameter.name.length, typeParameter.name);
+    c.leafAt('key', 'BindingIdentifier', start, start + typeParameter.name.length, typeParameter.name);
   } else {
     visit.bindingName(c, 'key', typeParameter ? typeParameter.name : node.key);
   }

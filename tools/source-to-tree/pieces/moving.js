@@ -89,9 +89,7 @@ class MovedRows {
     buffer[bytes.end] = COMMA;
     const begin = bytes.end + 1;
     json.copy(buffer, begin, begins[row], start);
-    const between = putNumber(view, begin + start - begins[row], from);
-    buffer[between] = COMMA;
-    const end = putNumber(view, between + 1, to);
+    const end = putNumber(view, putNumber(view, begin + start - begins[row], from), to) - 1;
     bytes.end = end + json.copy(buffer, end, behind, this.endOf(row));
     written.begins[row - first] = begin;
     written.numbers[row - first] = end - begin;

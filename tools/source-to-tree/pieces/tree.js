@@ -8,7 +8,8 @@ const { languageOf, goalOf } = require('../languages');
 const { firstPlace } = require('../row-places');
 const { ByteOffsets, MARK_BYTES } = require('../spans');
 const { TreeWriter } = require('../writer');
-const { MARK, commentTexts, hashbang, isOverflow, roomFor } = require('../once');
+const { MARK, hashbang, isOverflow } = require('../once');
+const { kindOf } = require('../kinds');
 const { Refusal } = require('../refusal');
 const { allComments } = require('./known');
 const { Begins, writeBefore, writeBehind } = require('./rows');
@@ -44,9 +45,9 @@ const FEW_COMMENTS = 100;
 function written(request, parsed, known) {
   const { source, text, lang, way, isMarked } = request;
   const offsets = new ByteOffsets(text, isMarked ? MARK_BYTES : 0);
-  const writer = new TreeWriter(offsets, lang, roomFor(FEW_COMMENTS + (known?.comments.length ?? 0)));
+  const writer = new TreeWriter(offsets, lang, FEW_COMMENTS + (known?.comments.length ?? 0));
   const begins = new Begins();
-  writer.open('root', 'Program', 0, text.length);
+  writer.open('root', kindOf('Program'), 0, text.length);
   hashbang(writer, text);
   const firstRow = begins.addWritten(writer.bytes, writer.start);
   writeBefore(writer, begins, known, parsed.before);
@@ -57,7 +58,7 @@ function written(request, parsed, known) {
   const comments = allComments(parsed, fresh.comments, known);
   const goal = way.goalOf(request, parsed, pieces);
   const { end } = writer.bytes;
-  const json = writer.finish({ source, lang, goal, comments: commentTexts(way.withoutHashbang(comments, text), offsets) });
+  const json = writer.finish({ source, lang, goal, comments: way.withoutHashbang(comments, text) });
   return {
     request,
     text,

@@ -23,13 +23,13 @@ function baseClass(c, node) {
 }
 
 function writeClass(c, role, node, { text, start }) {
-  c.writer.open(role, 'Class', start, node.end, text, modifierMarks(c, node, ['declare', 'abstract']));
+  c.openAt(role, 'Class', start, node.end, text, modifierMarks(c, node, ['declare', 'abstract']));
   each(c, 'decorators', decoratorsOf(c, node), 'decorator');
   each(c, 'id', node.name, 'bindingName');
   each(c, 'typeParameters', node.typeParameters && [node.typeParameters], 'typeParameters');
   baseClass(c, node);
   for (const type of heritage(c, node, 'ImplementsKeyword')) visit.heritage(c, 'implements', 'TSClassImplements', type);
-  c.writer.open('body', 'ClassBody', node.members.pos - 1, node.end);
+  c.openAt('body', 'ClassBody', node.members.pos - 1, node.end);
   for (const member of node.members) visit.classElement(c, 'body', member);
   c.close();
   c.close();
@@ -66,10 +66,10 @@ function method(kind) {
 // The word `constructor` has no node; it may be written as a string.
 function constructorKey(c, node) {
   const start = node.modifiers && node.modifiers.length ? skipTrivia(c.text, node.modifiers.end) : c.start(node);
-  if (!/['"]/.test(c.text[start])) return c.writer.leaf('key', 'IdentifierName', start, nameEnd(c.text, start), 'constructor');
+  if (!/['"]/.test(c.text[start])) return c.leafAt('key', 'IdentifierName', start, nameEnd(c.text, start), 'constructor');
   const end = c.text.indexOf(c.text[start], start + 1) + 1;
   c.hide(start, end);
-  return c.writer.leaf('key', 'StringLiteral', start, end, 'constructor');
+  return c.leafAt('key', 'StringLiteral', start, end, 'constructor');
 }
 
 function constructorMember(c, role, node) {

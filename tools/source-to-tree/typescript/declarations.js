@@ -10,7 +10,7 @@ const { DECLARATIONS } = require('./statements');
 const typeParameters = (c, node) => each(c, 'typeParameters', node.typeParameters && [node.typeParameters], 'typeParameters');
 
 DECLARATIONS.TypeAliasDeclaration = (c, role, node, start) => {
-  c.writer.open(role, 'TSTypeAliasDeclaration', start, node.end, '', modifierMarks(c, node, ['declare']));
+  c.openAt(role, 'TSTypeAliasDeclaration', start, node.end, '', modifierMarks(c, node, ['declare']));
   visit.bindingName(c, 'id', node.name);
   typeParameters(c, node);
   visit.type(c, 'valueType', node.type);
@@ -27,11 +27,11 @@ visit.heritage = (c, role, kind, node) => {
 };
 
 DECLARATIONS.InterfaceDeclaration = (c, role, node, start) => {
-  c.writer.open(role, 'TSInterfaceDeclaration', start, node.end, '', modifierMarks(c, node, ['declare']));
+  c.openAt(role, 'TSInterfaceDeclaration', start, node.end, '', modifierMarks(c, node, ['declare']));
   visit.bindingName(c, 'id', node.name);
   typeParameters(c, node);
   for (const type of heritage(c, node, 'ExtendsKeyword')) visit.heritage(c, 'extends', 'TSInterfaceHeritage', type);
-  c.writer.open('body', 'TSInterfaceBody', node.members.pos - 1, node.end);
+  c.openAt('body', 'TSInterfaceBody', node.members.pos - 1, node.end);
   each(c, 'body', node.members, 'typeMember');
   c.close();
   c.close();
@@ -55,9 +55,9 @@ function enumMember(c, role, node) {
 }
 
 DECLARATIONS.EnumDeclaration = (c, role, node, start) => {
-  c.writer.open(role, 'TSEnumDeclaration', start, node.end, '', modifierMarks(c, node, ['declare', 'const']));
+  c.openAt(role, 'TSEnumDeclaration', start, node.end, '', modifierMarks(c, node, ['declare', 'const']));
   visit.bindingName(c, 'id', node.name);
-  c.writer.open('body', 'TSEnumBody', node.members.pos - 1, node.end);
+  c.openAt('body', 'TSEnumBody', node.members.pos - 1, node.end);
   for (const member of node.members) enumMember(c, 'members', member);
   c.close();
   c.close();
@@ -76,7 +76,7 @@ visit.namespaceBody = byKind({
 
 DECLARATIONS.ModuleDeclaration = (c, role, node, start) => {
   const marks = modifierMarks(c, node, ['declare']);
-  const open = (kind) => c.writer.open(role, kind, start, node.end, '', marks);
+  const open = (kind) => c.openAt(role, kind, start, node.end, '', marks);
   if (node.flags & c.ts.NodeFlags.GlobalAugmentation) {
     open('TSGlobalDeclaration');
     visit.moduleBlock(c, 'body', node.body);

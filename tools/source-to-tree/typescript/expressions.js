@@ -13,7 +13,7 @@ function array(c, role, node) {
   c.open(role, 'ArrayExpression', node);
   for (const element of node.elements) {
     if (element.kind !== c.kinds.OmittedExpression) visit.argument(c, 'elements', element);
-    else c.writer.leaf('elements', 'Elision', c.start(element), c.start(element));
+    else c.leafAt('elements', 'Elision', c.start(element), c.start(element));
   }
   c.close();
 }
@@ -187,7 +187,7 @@ function metaProperty(c, role, node) {
   const property = c.ts.idText(node.name);
   if (property !== META_NAMES[word]) c.refuse(node.name, `'${property}' is not a valid meta-property for keyword '${word}'. Did you mean '${META_NAMES[word]}'?`);
   c.open(role, 'MetaProperty', node);
-  c.writer.leaf('meta', 'IdentifierName', start, start + word.length, word);
+  c.leafAt('meta', 'IdentifierName', start, start + word.length, word);
   visit.name(c, 'property', node.name);
   c.close();
   if (word === 'import') c.writer.isModule = true;

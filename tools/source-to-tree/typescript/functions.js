@@ -50,7 +50,7 @@ function thisParameter(c, node) {
 function formalParameters(c, node, text, first) {
   const { parameters } = node;
   const [start, end] = parametersSpan(c, node);
-  c.writer.open('params', 'FormalParameters', start, end, text);
+  c.openAt('params', 'FormalParameters', start, end, text);
   for (let i = first; i < parameters.length; i++) {
     if (!parameters[i].dotDotDotToken) parameter(c, 'items', parameters[i]);
     else if (i < parameters.length - 1) c.refuse(parameters[i], 'A rest parameter must be last in a parameter list.');
@@ -80,7 +80,7 @@ function writeFunction(c, role, node, { text, start, allowed }) {
   const marks = modifierMarks(c, node, allowed);
   if (node.asteriskToken) marks.push('generator');
   if (c.annotations.takesNoSideEffects(start)) marks.push('pure');
-  c.writer.open(role, 'Function', start, node.end, text, marks);
+  c.openAt(role, 'Function', start, node.end, text, marks);
   each(c, 'id', node.name, 'bindingName');
   visit.signature(c, node, 'formal');
   functionBody(c, node.body);
@@ -99,7 +99,7 @@ visit.methodValue = (c, role, node, isAsync) => {
   const list = node.typeParameters || node.parameters;
   if (!node.body && !c.isTyped) c.refuse(node, "'{' expected.");
   const marks = marksOf({ async: isAsync, generator: node.asteriskToken });
-  c.writer.open(role, 'Function', list.pos - 1, node.end, node.body ? 'expression' : 'ts-empty-body', marks);
+  c.openAt(role, 'Function', list.pos - 1, node.end, node.body ? 'expression' : 'ts-empty-body', marks);
   visit.signature(c, node, 'unique');
   functionBody(c, node.body);
   c.close();

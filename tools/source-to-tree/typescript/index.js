@@ -1,6 +1,7 @@
 'use strict';
 // From the syntax tree of TypeScript's compiler to the rows of a tree.
 
+const { kindOf } = require('../kinds');
 const { Refusal } = require('../refusal');
 const { skipTrivia, lineEndFrom, withoutSeparator } = require('../trivia');
 const { visit } = require('./visit');
@@ -86,20 +87,33 @@ class TypeScriptConversion {
   }
 
   open(role, kind, node, text, marks) {
-    this.writer.open(role, kind, this.start(node), node.end, text, marks);
+    this.writer.open(role, kindOf(kind), this.start(node), node.end, text, marks);
   }
 
   // A member of a type, without the mark that parts it from the next.
   openMember(role, kind, node, text, marks) {
-    this.writer.open(role, kind, this.start(node), withoutSeparator(this.text, node.end), text, marks);
+    this.writer.open(role, kindOf(kind), this.start(node), withoutSeparator(this.text, node.end), text, marks);
+  }
+
+  openAt(role, kind, start, end, text, marks) {
+    this.writer.open(role, kindOf(kind), start, end, text, marks);
   }
 
   close() {
     this.writer.close();
   }
 
+  // A leaf whose text the source has at its place, unless that is spelled with escapes.
+  spelled(role, kind, node, text) {
+    this.writer.spelled(role, kindOf(kind), this.start(node), node.end, 0, text);
+  }
+
+  leafAt(role, kind, start, end, text, marks) {
+    this.writer.leaf(role, kindOf(kind), start, end, text, marks);
+  }
+
   leaf(role, kind, node, text, marks) {
-    this.writer.leaf(role, kind, this.start(node), node.end, text, marks);
+    this.writer.leaf(role, kindOf(kind), this.start(node), node.end, text, marks);
   }
 
   // True for a link of a chain that has `?.`.

@@ -10,9 +10,9 @@ function namespaced(c, role, node, [namespace, name]) {
   const start = c.start(node);
   const colon = c.text.indexOf(':', start);
   c.open(role, 'JSXNamespacedName', node);
-  c.writer.leaf('namespace', 'JSXIdentifier', start, start + namespace.length, namespace);
+  c.leafAt('namespace', 'JSXIdentifier', start, start + namespace.length, namespace);
   const at = c.text.indexOf(name, colon);
-  c.writer.leaf('name', 'JSXIdentifier', at, at + name.length, name);
+  c.leafAt('name', 'JSXIdentifier', at, at + name.length, name);
   c.close();
 }
 
@@ -110,14 +110,14 @@ function fragment(c, role, node) {
 function container(c, role, node) {
   c.open(role, node.dotDotDotToken ? 'JSXSpreadChild' : 'JSXExpressionContainer', node);
   if (node.expression) visit.expression(c, 'expression', node.expression);
-  else c.writer.leaf('expression', 'JSXEmptyExpression', c.start(node) + 1, node.end - 1);
+  else c.leafAt('expression', 'JSXEmptyExpression', c.start(node) + 1, node.end - 1);
   c.close();
 }
 
 // A text begins where the mark before it ends, with its spaces.
 function text(c, role, node) {
   c.hide(node.pos, node.end);
-  c.writer.leaf(role, 'JSXText', node.pos, node.end, c.text.slice(node.pos, node.end));
+  c.leafAt(role, 'JSXText', node.pos, node.end, c.text.slice(node.pos, node.end));
 }
 
 const ELEMENTS = { JsxElement: element, JsxSelfClosingElement: selfClosing, JsxFragment: fragment };

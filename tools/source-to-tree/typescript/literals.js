@@ -36,7 +36,7 @@ function pieceText(c, node, { start, end, isTagged }) {
 function templateElement(c, node, behind, isTagged) {
   const start = c.opaque(node) + 1;
   const end = node.end - behind;
-  c.writer.leaf('quasis', 'TemplateElement', start, end, wholeCharacters(pieceText(c, node, { start, end, isTagged })));
+  c.leafAt('quasis', 'TemplateElement', start, end, wholeCharacters(pieceText(c, node, { start, end, isTagged })));
 }
 
 // The pieces of a template, and the list of what stands between them.

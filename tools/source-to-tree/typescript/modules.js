@@ -122,7 +122,7 @@ Object.assign(STATEMENTS, {
 
 DECLARATIONS.ImportEqualsDeclaration = (c, role, node, start) => {
   modifierMarks(c, node, []);
-  c.writer.open(role, 'TSImportEqualsDeclaration', start, node.end, '', typeMark(node));
+  c.openAt(role, 'TSImportEqualsDeclaration', start, node.end, '', typeMark(node));
   visit.bindingName(c, 'id', node.name);
   importTarget(c, 'reference', node.moduleReference);
   c.close();

@@ -7,7 +7,7 @@ const { visit, byKind } = require('./visit');
 function identifier(kind) {
   return (c, role, node) => {
     if (node.kind !== c.kinds.Identifier) c.refuse(node, `${c.kindName(node)} can't be a name`);
-    c.leaf(role, kind, node, c.ts.idText(node));
+    c.spelled(role, kind, node, c.ts.idText(node));
   };
 }
 

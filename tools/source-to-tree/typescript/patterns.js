@@ -16,7 +16,7 @@ function elementsOf(c, list) {
 
 visit.bindingRest = (c, role, node) => {
   if (node.initializer) c.refuse(node.initializer, 'A rest element cannot have an initializer.');
-  c.writer.open(role, 'BindingRestElement', c.start(node), node.name.end);
+  c.openAt(role, 'BindingRestElement', c.start(node), node.name.end);
   visit.binding(c, 'argument', node.name);
   c.close();
 };
@@ -24,7 +24,7 @@ visit.bindingRest = (c, role, node) => {
 // An element's name, with its default if it has one.
 function bindingValue(c, role, node) {
   if (!node.initializer) return visit.binding(c, role, node.name);
-  c.writer.open(role, 'AssignmentPattern', c.start(node.name), node.end);
+  c.openAt(role, 'AssignmentPattern', c.start(node.name), node.end);
   visit.binding(c, 'left', node.name);
   visit.expression(c, 'right', node.initializer);
   c.close();

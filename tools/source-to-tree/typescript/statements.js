@@ -47,7 +47,7 @@ function writeVariables(c, role, list, { start, end, marks = [] }) {
   const [first] = list.declarations;
   if (first === undefined) c.refuse(list, 'Variable declaration list cannot be empty.');
   if (kind === 'const' && first.initializer) c.annotations.passOn(start, c.start(first.initializer));
-  c.writer.open(role, 'VariableDeclaration', start, end, kind, marks);
+  c.openAt(role, 'VariableDeclaration', start, end, kind, marks);
   for (const node of list.declarations) declarator(c, 'declarators', node);
   c.close();
 }

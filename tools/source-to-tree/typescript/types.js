@@ -17,7 +17,7 @@ visit.typeAnnotation = (c, role, node) => {
 function bracketed(kind, name, mayBeEmpty) {
   return (c, role, list) => {
     if (list.length === 0 && !mayBeEmpty) throw new Refusal('Type parameter list cannot be empty.', list.pos - 1);
-    c.writer.open(role, kind, list.pos - 1, closingEnd(c.text, list.end, '>'));
+    c.openAt(role, kind, list.pos - 1, closingEnd(c.text, list.end, '>'));
     each(c, 'params', list, name);
     c.close();
   };
@@ -121,9 +121,9 @@ function importOptions(c, clause, from) {
   const outer = skipTrivia(c.text, skipTrivia(c.text, from) + 1);
   const word = skipTrivia(c.text, outer + 1);
   const wordEnd = nameEnd(c.text, word);
-  c.writer.open('options', 'ObjectExpression', outer, closingEnd(c.text, clause.end, '}'));
-  c.writer.open('properties', 'ObjectProperty', word, clause.end, 'init');
-  c.writer.leaf('key', 'IdentifierName', word, wordEnd, c.text.slice(word, wordEnd));
+  c.openAt('options', 'ObjectExpression', outer, closingEnd(c.text, clause.end, '}'));
+  c.openAt('properties', 'ObjectProperty', word, clause.end, 'init');
+  c.leafAt('key', 'IdentifierName', word, wordEnd, c.text.slice(word, wordEnd));
   c.open('value', 'ObjectExpression', clause);
   for (const element of clause.elements) importOption(c, element);
   c.close();
@@ -134,7 +134,7 @@ function importOptions(c, clause, from) {
 function importType(c, role, node, start = c.start(node)) {
   const { literal } = node.argument;
   if (!literal || literal.kind !== c.kinds.StringLiteral) c.refuse(node.argument, 'String literal expected.');
-  c.writer.open(role, 'TSImportType', start, node.end);
+  c.openAt(role, 'TSImportType', start, node.end);
   visit.string(c, 'argument', literal);
   const clause = node.attributes || (node.assertions && node.assertions.assertClause);
   if (clause) importOptions(c, clause, node.argument.end);
@@ -179,7 +179,7 @@ function templateType(c, role, node) {
 }
 
 function namedMember(c, role, node, start) {
-  c.writer.open(role, 'TSNamedTupleMember', start, node.end, '', marksOf({ optional: node.questionToken }));
+  c.openAt(role, 'TSNamedTupleMember', start, node.end, '', marksOf({ optional: node.questionToken }));
   visit.name(c, 'label', node.name);
   visit.type(c, 'element', node.type);
   c.close();
