@@ -3,3 +3,4 @@ pub mod Asking
 pub mod NamedArguments
 pub mod Kept
 pub mod NonePending
+pub mod Batches

@@ -1,5 +1,5 @@
 -- Whether a text is `arguments`, told by its characters.
-use Rattle.std.proofs.Common.{◌≡◌, ◌==◌, ℕ, List, Bool, true, false, length, ap, sym, ◌∙◌, refl, codes}
+use Rattle.std.proofs.Common.{◌≡◌, ◌==◌, length, ℕ, List, Bool, true, false, ap, sym, ◌∙◌, refl, codes}
 use Rattle.std.specs.Str.{chars, IsUtf8, bytes_eq}
 use Rattle.std.proofs.lemmas.Bool.Decides.{Decides-eqb}
 use Rattle.std.proofs.lemmas.Slice.Eq.{bytes_eq-Decides}
@@ -12,18 +12,23 @@ named_arguments text u =
     ap (λ t. bytes_eq (chars text) t) (sym (ascii_chars (codes "arguments") refl))
     ∙ same_texts text (codes "arguments") u (IsUtf8-from_ascii (codes "arguments") (ascii_text (codes "arguments") refl))
 
--- a text of another length is another one
-module _ (text : List ℕ) (other : length text ≡ 9 → ⊥) where
-  pub other_length : (length text == 9) ≡ false
-  other_length = by (length text == 9) refl
-    where
-      by : (b : Bool) → (length text == 9) ≡ b → b ≡ false
-      by true e = absurd (other ((Decides-eqb (length text) 9).0 e))
-      by false e = refl
-
+-- another text
+module _ (text : List ℕ) (other : text ≡ codes "arguments" → ⊥) where
   pub other_text : bytes_eq text (codes "arguments") ≡ false
   other_text = by (bytes_eq text (codes "arguments")) refl
     where
       by : (b : Bool) → bytes_eq text (codes "arguments") ≡ b → b ≡ false
-      by true e = absurd (other (ap length ((bytes_eq-Decides text (codes "arguments")).0 e)))
+      by true e = absurd (other ((bytes_eq-Decides text (codes "arguments")).0 e))
       by false e = refl
+
+pub empty_is_other : (text : List ℕ) → (length text == 0) ≡ true → text ≡ codes "arguments" → ⊥
+empty_is_other text none is =
+    let differ : true ≡ false = sym none ∙ ap (λ t. length t == 0) is in
+    cc
+
+pub other_number : (a b : ℕ) → (a ≡ b → ⊥) → (a == b) ≡ false
+other_number a b other = by (a == b) refl
+  where
+    by : (t : Bool) → (a == b) ≡ t → t ≡ false
+    by true e = absurd (other ((Decides-eqb a b).0 e))
+    by false e = refl

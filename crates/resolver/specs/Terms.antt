@@ -1,6 +1,7 @@
 -- References that wait and their outcomes, in the terms of the definitions.
-use Rattle.std.specs.Prelude.{◌≡◌, ℕ, ◌==◌, Bool, true, false, List, Option, None, Some, map}
+use Rattle.std.specs.Prelude.{◌≡◌, ℕ, ◌==◌, Bool, true, false, List, Option, None, Some, map, codes}
 use Rattle.std.specs.Option.{option_map}
+use Rattle.std.specs.Str.{bytes_eq}
 use Rattle.semantic_syntax.specs.Tables.{Name}
 use Rattle.semantic_syntax.specs.Lookup.{tied, tied_by}
 use Rattle.semantic_syntax.specs.Source.{Source, chain}
@@ -17,6 +18,14 @@ outcome_of (Pending s) = model.waits s
 
 abbrev pub pending_of : UnresolvedReference → model.Pending
 pending_of u = record { name = name_of u.name; reference = u.reference_id; lookup_scope = u.lookup_scope_id }
+
+-- whether the name is `arguments`, by its letters
+abbrev pub is_arguments_name : Name → Bool
+is_arguments_name x = bytes_eq x (codes "arguments")
+
+-- what is told of a name: if it may not be `arguments`, it isn't
+abbrev pub MayBeArguments : Name → Bool → Type 0
+MayBeArguments x may_be = may_be ≡ false → is_arguments_name x ≡ false
 
 -- the reference, to be looked up from the scope
 abbrev pub looked_up_from : UnresolvedReference → ℕ → UnresolvedReference

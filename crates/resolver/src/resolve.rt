@@ -1,17 +1,21 @@
 //! The look-up of the references that wait, at the end of a header and in the end (ECMAScript 9.4.2, ResolveBinding).
-ghost use Rattle.std.specs.Prelude.{◌≡◌, ◌<◌, ◌≤◌, map, drop, IfOk, OnOk, OnErr, All, IsTrue};
+ghost use Rattle.std.specs.Prelude.{◌≡◌, ◌<◌, ◌≤◌, ◌++◌, map, drop, IfOk, OnOk, OnErr, All, IsTrue};
 ghost use Rattle.std.specs.List.{sum_by};
+ghost use Rattle.std.specs.Str.{chars};
 ghost use Rattle.semantic_syntax.specs.Counts.{raised};
 ghost use Rattle.semantic_syntax.specs.Source.{Source};
 ghost use Rattle.semantic_syntax.specs.Outcome.{waits_outside, header_outcome, header_probes, last_outcome, last_probes};
-ghost use Rattle.resolver.specs.Terms.{outcome_of, pending_of, is_settled};
+ghost use Rattle.resolver.specs.Terms.{outcome_of, pending_of, MayBeArguments, is_settled};
 
-use crate::lookup::{is_within, look_up};
+use crate::lookup::{any_named_arguments, is_within, look_up};
 use crate::outcomes::{Outcome, Outcomes};
 use crate::pending::{UnresolvedReference, UnresolvedReferences};
 use scoping::BindingSource;
 use semantic_syntax::{ScopeId, Steps};
 use std::alloc::{AllocError, Global};
+
+// For so many references at once it is asked whether one is named `arguments`.
+const AT_ONCE: usize = 64;
 
 // What becomes of a reference that no scope up to this one answers: it waits in the parent.
 fn outside<L, B: BindingSource<L>>(scope: ScopeId, source: &B) -> Outcome
@@ -43,7 +47,7 @@ fn resolve_in_header<L, B: BindingSource<L>>(
     if !is_within(entry.lookup_scope_id, scope, source) {
         return Outcome::Pending(entry.lookup_scope_id);
     }
-    match look_up(entry, Some(scope), source, steps) {
+    match look_up(entry, true, Some(scope), source, steps) {
         Some(outcome) => outcome,
         None => outside(scope, source),
     }
@@ -52,20 +56,52 @@ fn resolve_in_header<L, B: BindingSource<L>>(
 // What becomes of the reference in the end, when all is declared.
 fn resolve_last<L, B: BindingSource<L>>(
     entry: &UnresolvedReference<'_>,
+    may_be: bool,
     source: &B,
     steps: &mut Steps<L>,
 ) -> Outcome
     requires lookup_scope { entry.now.lookup_scope_id < (B.meaning source.now).scopes }
     requires reference { entry.now.reference_id < (B.meaning source.now).references }
+    requires may_be { MayBeArguments (chars entry.now.name.text.now) may_be }
     ensures outcome { outcome_of result
         ≡ last_outcome (B.meaning source.now) (pending_of entry.now) }
     ensures cost { steps.new ≡ raised steps.old
         (last_probes (B.meaning source.now) (pending_of entry.now)) }
 {
-    match look_up(entry, None, source, steps) {
+    match look_up(entry, may_be, None, source, steps) {
         Some(outcome) => outcome,
         None => Outcome::Free,
     }
+}
+
+// What becomes in the end of the references of a batch, behind the outcomes so far.
+fn resolve_batch<L, B: BindingSource<L>>(
+    batch: &[UnresolvedReference<'_>],
+    source: &B,
+    steps: &mut Steps<L>,
+    outcomes: &mut Outcomes,
+) -> Result<(), AllocError>
+    requires lookup_scopes { All (λ u. u.lookup_scope_id < (B.meaning source.now).scopes)
+        batch.now }
+    requires references { All (λ u. u.reference_id < (B.meaning source.now).references)
+        batch.now }
+    ensures outcomes { OnOk result (map outcome_of outcomes.new
+        ≡ map outcome_of outcomes.old
+        ++ map (last_outcome (B.meaning source.now)) (map pending_of batch.now)) }
+    ensures cost { OnOk result (steps.new
+        ≡ raised steps.old (sum_by (last_probes (B.meaning source.now))
+        (map pending_of batch.now))) }
+    ensures risen { steps.old ≤ steps.new }
+    ensures given_up { OnErr result
+        (steps.new ≤ raised steps.old
+        (sum_by (last_probes (B.meaning source.now)) (map pending_of batch.now))) }
+{
+    let may_be = any_named_arguments(batch);
+    for entry in batch {
+        let outcome = resolve_last(entry, may_be, source, steps);
+        outcomes.push(outcome)?;
+    }
+    Ok(())
 }
 
 /// The outcomes, at the end of the header whose scope this is, of the references from the position `start` on. One
@@ -133,9 +169,12 @@ pub fn resolve_all<L, B: BindingSource<L>>(
         (sum_by (last_probes (B.meaning source.now)) (map pending_of pending.now))) }
 {
     let mut outcomes = Outcomes::new(alloc);
-    for entry in pending.entries_from(0) {
-        let outcome = resolve_last(entry, source, steps);
-        outcomes.push(outcome)?;
+    let entries = pending.entries_from(0);
+    let mut start = 0;
+    while start < entries.len() {
+        let size = AT_ONCE.min(entries.len() - start);
+        resolve_batch(&entries[start..start + size], source, steps, &mut outcomes)?;
+        start += size;
     }
     Ok(outcomes)
 }
