@@ -151,10 +151,15 @@ times_of_peers() {
     done
 }
 
+# What glibc is told of the memory of a program that gets the tree, as by the commands (tools/programs/pages.js).
+tunables_for() {
+    if [ "$(wc -c <"$1")" -ge 4194304 ]; then echo glibc.malloc.hugetlb=1; fi
+}
+
 # A row of times for the tree of a file, or of a made one.
 time_once() {
     # shellcheck disable=SC2046
-    echo "$1" $(times_of_peers "$3") "$("$timed" <"$2") $(time_of_report "$2") $(peak_of_report "$2") $(wc -c <"$2")"
+    echo "$1" $(times_of_peers "$3") "$(GLIBC_TUNABLES="$(tunables_for "$2")" "$timed" <"$2") $(time_of_report "$2") $(peak_of_report "$2") $(wc -c <"$2")"
 }
 
 if [ -n "${PROGRAM:-}" ]; then

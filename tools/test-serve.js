@@ -173,6 +173,35 @@ async function tryDropping(folder) {
   served.close();
 }
 
+// How a program is to take its memory, by its first input, and by what the caller said of it.
+const LARGE = Buffer.alloc(1 << 22);
+const MEMORY = [
+  ['a small tree', LARGE.subarray(1), undefined, ''],
+  ['a large tree', LARGE, undefined, 'glibc.malloc.hugetlb=1'],
+  ['a large tree, as the caller wants it', LARGE, 'glibc.malloc.arena_max=1', 'glibc.malloc.arena_max=1'],
+];
+
+async function tryMemory(folder) {
+  const program = path.join(folder, 'memory');
+  fs.writeFileSync(program, '#!/bin/sh\nprintf %s "$GLIBC_TUNABLES" >"$0.told"\n', { mode: 0o755 });
+  const before = process.env.GLIBC_TUNABLES;
+  for (const [what, input, said, wanted] of MEMORY) {
+    setTunables(said);
+    const served = new Served(program);
+    await told(served.run(['a'], input));
+    expect(`the memory of a program with ${what}`, wanted, fs.readFileSync(`${program}.told`, 'utf8'));
+  }
+  setTunables(before);
+}
+
+function setTunables(said) {
+  if (said === undefined) {
+    delete process.env.GLIBC_TUNABLES;
+  } else {
+    process.env.GLIBC_TUNABLES = said;
+  }
+}
+
 // Many requests at once, of one tool and of several, are each answered as when they stand alone.
 async function tryPool(enough) {
   const pool = new Pool({ size: 3, programs: programsFor(['report', 'name_lint']), enough });
@@ -192,6 +221,7 @@ async function main() {
   try {
     await tryStandIns(folder);
     await tryDropping(folder);
+    await tryMemory(folder);
     await tryPool(3);
     await tryPool(1);
   } finally {

@@ -5,6 +5,7 @@ const fs = require('fs');
 const path = require('path');
 const { spawnSync } = require('child_process');
 const { RunFault } = require('../bolgwyr/faults.js');
+const { environmentFor } = require('./pages.js');
 
 // The program that has all tools and serves requests to them, and the one that has the report alone.
 const SERVING = 'tools_main';
@@ -123,7 +124,7 @@ function programsFor(tools) {
 function runTool(tool, words, input) {
   const { crate, words: own } = runBy(tool);
   const program = programPath(crate);
-  const run = spawnSync(program, [...own, ...words], { input, maxBuffer: Infinity });
+  const run = spawnSync(program, [...own, ...words], { input, env: environmentFor(input), maxBuffer: Infinity });
   if (run.status === null && run.signal === null) {
     throw new RunFault(`${program} can't be run: ${run.error.message}`);
   }

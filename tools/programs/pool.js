@@ -4,11 +4,12 @@
 const { spawn } = require('child_process');
 const { RunFault } = require('../bolgwyr/faults.js');
 const { SERVING, servedBy } = require('./index.js');
+const { environmentFor } = require('./pages.js');
 const { Served } = require('./served.js');
 
 // The run of a program for a single input.
 function runOnce(program, words, input) {
-  const child = spawn(program, words);
+  const child = spawn(program, words, { env: environmentFor(input) });
   const pieces = { stdout: [], stderr: [] };
   child.stdout.on('data', (piece) => pieces.stdout.push(piece));
   child.stderr.on('data', (piece) => pieces.stderr.push(piece));

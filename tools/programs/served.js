@@ -4,6 +4,7 @@
 const { spawn } = require('child_process');
 const { RunFault } = require('../bolgwyr/faults.js');
 const { AnswerReader, requestHead } = require('./frames.js');
+const { environmentFor } = require('./pages.js');
 
 const NOTHING = Buffer.alloc(0);
 const UNHEARD = () => {};
@@ -43,7 +44,7 @@ class Served {
 
   // Starts the program, which gets all that waits.
   start() {
-    const child = spawn(this.program, ['serve']);
+    const child = spawn(this.program, ['serve'], { env: environmentFor(this.waiting[0]?.input ?? NOTHING) });
     const errors = [];
     const isMine = () => this.child === child;
     const reader = new AnswerReader((answer) => isMine() && this.take(answer));
