@@ -108,4 +108,4 @@ class Bytes {
   }
 }
 
-module.exports = { Bytes, HEAD_WORDS, WORD, putHead, putNumber, wordsOf };
+module.exports = { Bytes, HEAD_WORDS, PADDED, THOUSAND, WORD, putHead, putNumber, wordsOf };

@@ -33,7 +33,7 @@ function escapedIn(word) {
 const firstByte = (bits) => (31 - Math.clz32(bits & -bits)) >> 3;
 
 // What is read of a source reaches so many bytes behind its end, where spaces stand.
-const BEHIND = 2 * WORD;
+const BEHIND = 6 * WORD;
 
 // The bytes of a text.
 class Utf8 {
@@ -69,6 +69,14 @@ class Utf8 {
       at += before + 2;
     }
     return at - (next - length);
+  }
+
+  // Copies so many bytes, and some behind them, to where there is room for that. UTF-8 has no bytes that would be no number.
+  copyShort(from, length, target, at) {
+    const { view } = this;
+    target.setFloat64(at, view.getFloat64(from, true), true);
+    target.setFloat64(at + 2 * WORD, view.getFloat64(from + 2 * WORD, true), true);
+    for (let next = 4 * WORD; next < length; next += 2 * WORD) target.setFloat64(at + next, view.getFloat64(from + next, true), true);
   }
 
   // Copies bytes that need no escape, and gives the place behind them; -1 where one needs it.

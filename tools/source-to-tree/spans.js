@@ -7,6 +7,7 @@ const { Refusal } = require('./refusal');
 const MARK_BYTES = 3;
 const NO_CHARACTER = Buffer.from('\ufffd'); // stands for the half of a character, too
 const BLOCK_BITS = 6; // the units of a block of the text are counted together
+const MOST_BLOCKS = 16; // before and behind one that are asked whether they are like it
 const CHUNK_BITS = 10; // those of a chunk are asked at once whether all are ASCII
 
 // The bytes that a unit has above one. Half of a character of four bytes has two.
@@ -45,6 +46,20 @@ class ByteOffsets {
   at(offset) {
     if (!(offset >= 0 && offset <= this.last)) throw new Refusal(`there is no place ${offset} in the source`);
     return this.shift + (this.blocks === null ? offset : offset + this.bytesMore(offset));
+  }
+
+  // From which unit round this one to behind which other as many bytes more than units stand before each.
+  evenRound(offset) {
+    const { blocks, last } = this;
+    if (blocks === null) return [0, last + 1];
+    const block = offset >> BLOCK_BITS;
+    const more = blocks[block];
+    if (blocks[block + 1] !== more) return [offset, offset + 1];
+    let from = block;
+    while (from > 0 && block - from < MOST_BLOCKS && blocks[from - 1] === more) from--;
+    let to = block + 1;
+    while (to - block < MOST_BLOCKS && blocks[to + 1] === more) to++;
+    return [from << BLOCK_BITS, Math.min(to << BLOCK_BITS, last + 1)];
   }
 
   // How many bytes more than units stand before an offset.

@@ -4,6 +4,7 @@
 const { Refusal } = require('./refusal');
 const { Bytes, WORD, putHead, putNumber, wordsOf } = require('./bytes');
 const { isPlain } = require('./escapes');
+const { NearPlaces } = require('./near-places');
 const { firstPlace } = require('./row-places');
 
 const DEEPEST = 1000;
@@ -19,12 +20,13 @@ const TYPED_ONLY = 'types and declarations of TypeScript stand in TypeScript fil
 
 const QUOTE = 0x22;
 
-const BEGINS = []; // how a row begins, by its depth, where one was that deep: it is a single word
-
-// The first row is the root's.
-function beginOf(depth) {
-  BEGINS[depth] ??= wordsOf(depth === 0 ? '[0' : `,[${depth}`);
-  return BEGINS[depth];
+// How a row begins, by its depth: a single word, and how many bytes of it count. The first row is the root's.
+const BEGINS = new Float64Array(DEEPEST + 1);
+const BEGIN_LENGTHS = new Uint8Array(DEEPEST + 1);
+for (let depth = 0; depth <= DEEPEST; depth++) {
+  const { words, length } = wordsOf(depth === 0 ? '[0' : `,[${depth}`);
+  BEGINS[depth] = words[0];
+  BEGIN_LENGTHS[depth] = length;
 }
 
 // The end of a row, from the end of its text on, for each mark alone and for none.
@@ -43,7 +45,10 @@ const TEXTS = ['', 'declaration', 'expression', 'formal', 'unique', 'arrow', 'in
   '<', '<=', '>', '>=', '+', '-', '*', '/', '%', '**', '|', '&', '^', '<<', '>>', '>>>', '||', '&&', '??', '!', '~', '++', '--', 'in', 'instanceof',
   'typeof', 'void', 'delete'];
 const TAILS = new Map(TEXTS.map((text) => [text, wordsOf(`"${text}",[]]`)]));
-const NO_TEXT = TAILS.get('');
+const [NO_TEXT] = TAILS.get('').words;
+const NO_TEXT_LENGTH = TAILS.get('').length;
+const [NAME_END] = NO_MARK_END.words;
+const NAME_END_LENGTH = NO_MARK_END.length;
 
 const ROWS = 1024; // at first
 
@@ -54,6 +59,7 @@ function grown(places) {
 }
 
 const ROW_ROOM = 512; // for a row without its text: no role, kind or list of marks is half as long
+const LONGEST_NAME = 256; // that has room in it
 const BYTES_PER_UNIT = 10; // of a tree, by its source: more than most have
 
 const FEW_ESCAPES = 3; // a text has fewer than one for two to the power of this many bytes, or is rare
@@ -68,13 +74,13 @@ const LINE = wordsOf('"line"]');
 const MARK = '\ufeff';
 
 const NOWHERE = -1;
-const NOT_THERE = -1; // in place of a number of marks: the text isn't taken from the source
 
 class TreeWriter {
   // There is room for so many comments.
   constructor(offsets, lang, comments) {
     const gap = HEAD + COMMENT * comments;
     this.offsets = offsets;
+    this.near = new NearPlaces(offsets);
     this.isTyped = lang !== 'js' && lang !== 'jsx';
     this.start = gap;
     this.most = gap + MOST_BYTES;
@@ -91,7 +97,7 @@ class TreeWriter {
 
   // A node whose children follow until close.
   open(role, kind, start, end, text = '', marks = NO_MARKS) {
-    this.row(role, kind, start, end, NOT_THERE, text, marks);
+    this.leaf(role, kind, start, end, text, marks);
     if (kind.isFunction && this.outermost === NOWHERE) this.outermost = this.depth;
     this.depth += 1;
   }
@@ -102,45 +108,82 @@ class TreeWriter {
   }
 
   leaf(role, kind, start, end, text = '', marks = NO_MARKS) {
-    this.row(role, kind, start, end, NOT_THERE, text, marks);
-  }
-
-  // A leaf whose text the source has at its place, too, without so many marks on each side, unless that is spelled with escapes there. Where
-  // it is as long and begins so, it is copied from there.
-  spelled(role, kind, start, end, marksRound, text, marks = NO_MARKS) {
-    const { text: source, mayLackHalves } = this.offsets;
-    const isThere = text.length === end - start - 2 * marksRound && text.charCodeAt(0) === source.charCodeAt(start + marksRound);
-    this.row(role, kind, start, end, isThere && !mayLackHalves ? marksRound : NOT_THERE, text, marks);
-  }
-
-  // It writes out what others could do for it, and is so too large for an engine to compile it anew with each function that leads to it.
-  row(role, kind, start, end, marksRound, text, marks) {
-    const { bytes, offsets, depth } = this;
-    if (depth > DEEPEST) throw new Refusal('too deep');
-    if (kind.isTyped && !this.isTyped) throw new Refusal(TYPED_ONLY, start);
-    bytes.reserve(ROW_ROOM);
-    const { view } = bytes;
-    const begin = BEGINS[depth] ?? beginOf(depth);
-    const head = kind.lastRole === role ? kind.lastHead : kind.headFor(role);
-    let at = bytes.end;
-    if (this.rows === this.places.length) this.places = grown(this.places);
-    this.places[this.rows++] = at;
-    view.setFloat64(at, begin.words[0], true);
-    at += begin.length;
-    putHead(view, at, head.words);
-    const first = offsets.at(start);
-    const behind = offsets.at(end);
-    bytes.end = putNumber(view, putNumber(view, at + head.length, first), behind);
-    if (marksRound !== NOT_THERE) {
-      const before = offsets.shift - marksRound;
-      this.finishSpelled(first - before, behind - marksRound - offsets.shift, text, marks);
+    const { bytes } = this;
+    const at = this.begin(role, kind, start, end);
+    if (text.length === 0 && marks.length === 0) {
+      bytes.view.setFloat64(at, NO_TEXT, true);
+      bytes.end = at + NO_TEXT_LENGTH;
     } else {
-      const tail = marks.length > 0 ? undefined : text === '' ? NO_TEXT : TAILS.get(text);
+      bytes.end = at;
+      const tail = marks.length > 0 ? undefined : TAILS.get(text);
       if (tail === undefined) this.finishText(text, marks);
       else bytes.copy(tail);
     }
     if (bytes.end > this.most) throw new Refusal('too large');
     if (!kind.isPlain) this.notice(kind, text, marks);
+  }
+
+  // A leaf that is a name, or is otherwise spelled without what needs an escape in JSON. Where the source has as many units as the text, none
+  // of them is an escape of the source, and it is copied from there.
+  name(role, kind, start, end, text, marks = NO_MARKS) {
+    const { near, offsets, bytes } = this;
+    const at = this.begin(role, kind, start, end);
+    const length = end - start;
+    if (text.length !== length || length > LONGEST_NAME || !near.has(end) || offsets.mayLackHalves) {
+      bytes.end = at;
+      this.finishText(text, marks);
+    } else {
+      bytes.view.setUint8(at, QUOTE);
+      offsets.utf8.copyShort(start + near.more - offsets.shift, length, bytes.view, at + 1);
+      bytes.end = at + 1 + length;
+      if (marks.length > 0) {
+        bytes.copy(endFor(marks));
+      } else {
+        bytes.view.setFloat64(bytes.end, NAME_END, true);
+        bytes.end += NAME_END_LENGTH;
+      }
+    }
+    if (bytes.end > this.most) throw new Refusal('too large');
+  }
+
+  // A leaf whose text the source has at its place, too, without so many marks on each side, unless that is spelled with escapes there. Where
+  // it is as long and begins so, it is copied from there.
+  spelled(role, kind, start, end, marksRound, text, marks = NO_MARKS) {
+    const { bytes, offsets } = this;
+    bytes.end = this.begin(role, kind, start, end);
+    const { text: source, mayLackHalves } = offsets;
+    const isThere = text.length === end - start - 2 * marksRound && text.charCodeAt(0) === source.charCodeAt(start + marksRound);
+    if (isThere && !mayLackHalves) {
+      const before = marksRound - offsets.shift;
+      this.finishSpelled(offsets.at(start) + before, offsets.at(end) - marksRound - offsets.shift, text, marks);
+    } else {
+      this.finishText(text, marks);
+    }
+    if (bytes.end > this.most) throw new Refusal('too large');
+    if (!kind.isPlain) this.notice(kind, text, marks);
+  }
+
+  // Writes a row as far as before its text, and gives the place there. It writes out what others could do for it, and is so too large for
+  // an engine to compile it anew with each function that leads to it.
+  begin(role, kind, start, end) {
+    const { bytes, near, depth } = this;
+    if (depth > DEEPEST) throw new Refusal('too deep');
+    if (kind.isTyped && !this.isTyped) throw new Refusal(TYPED_ONLY, start);
+    let at = bytes.end;
+    if (at + ROW_ROOM > bytes.room) bytes.grow(at + ROW_ROOM);
+    if (this.rows === this.places.length) this.places = grown(this.places);
+    this.places[this.rows++] = at;
+    const { view } = bytes;
+    view.setFloat64(at, BEGINS[depth], true);
+    at += BEGIN_LENGTHS[depth];
+    const head = kind.lastRole === role ? kind.lastHead : kind.headFor(role);
+    putHead(view, at, head.words);
+    at += head.length;
+    const from = start - near.low;
+    if (!(from >= 0 && from < near.count)) near.moveTo(start);
+    at = near.put(view, at, start);
+    const to = end - near.low;
+    return to >= 0 && to < near.count ? near.put(view, at, end) : putNumber(view, at, this.offsets.at(end));
   }
 
   // The text, which the source has from one byte to another, and what stands behind it.
