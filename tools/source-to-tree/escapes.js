@@ -35,15 +35,25 @@ const firstByte = (bits) => (31 - Math.clz32(bits & -bits)) >> 3;
 // What is read of a source reaches so many bytes behind its end, where spaces stand.
 const BEHIND = 6 * WORD;
 
+const MOST_BYTES = 3; // of a unit; where all have room, the engine doesn't count them beforehand
+
 // The bytes of a text.
 class Utf8 {
   constructor(text) {
-    const length = Buffer.byteLength(text);
-    const buffer = Buffer.allocUnsafeSlow(length + BEHIND).fill(SPACE, length);
-    buffer.utf8Write(text);
+    const buffer = Buffer.allocUnsafeSlow(MOST_BYTES * text.length + BEHIND);
+    const length = buffer.utf8Write(text);
+    buffer.fill(SPACE, length, length + BEHIND);
     this.length = length;
     this.bytes = buffer.subarray(0, length);
     this.view = new DataView(buffer.buffer, buffer.byteOffset, buffer.length);
+  }
+
+  // The place from here on, or behind all bytes, before which all are of ASCII and behind which one of four isn't.
+  asciiEnd(from) {
+    const { view, length } = this;
+    let at = from;
+    while (at < length && (view.getInt32(at, true) & HIGHEST) === 0) at += WORD;
+    return Math.min(at, length);
   }
 
   // Copies all bytes to a place of another view on, where there is room for so many escapes and a word, and gives the place behind them; -1
