@@ -175,10 +175,7 @@ class TreeWriter {
     this.places[this.rows++] = at;
     const { view } = bytes;
     view.setFloat64(at, BEGINS[depth], true);
-    at += BEGIN_LENGTHS[depth];
-    const head = kind.lastRole === role ? kind.lastHead : kind.headFor(role);
-    putHead(view, at, head.words);
-    at += head.length;
+    at = putHead(view, at + BEGIN_LENGTHS[depth], kind.headFor(role));
     const from = start - near.low;
     if (!(from >= 0 && from < near.count)) near.moveTo(start);
     at = near.put(view, at, start);
