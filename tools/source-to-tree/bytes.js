@@ -42,27 +42,22 @@ function putPadded(view, at, value) {
 }
 
 // Heads of rows, each in as many words, by their numbers. There is room for more than are ever made, of which the memory isn't taken.
-const HEAD_ROOM = 8;
+const HEAD_ROOM = 8; // none has more than seven
 const MOST_HEADS = 16384;
 const HEADS = new Float64Array(HEAD_ROOM * MOST_HEADS);
 const HEAD_LENGTHS = new Uint8Array(MOST_HEADS);
-const MOST_LENGTH = 5 * WORD; // of nearly all of them
 
-// Writes a head, and gives the place behind it. It has no loop, since processors guess wrongly where a short one ends.
+// Writes a head, and gives the place behind it. It writes the words of the longest, since processors guess wrongly where a short one ends.
 function putHead(view, at, head) {
   const first = HEAD_ROOM * head;
-  const length = HEAD_LENGTHS[head];
   view.setFloat64(at, HEADS[first], true);
   view.setFloat64(at + WORD, HEADS[first + 1], true);
   view.setFloat64(at + 2 * WORD, HEADS[first + 2], true);
   view.setFloat64(at + 3 * WORD, HEADS[first + 3], true);
   view.setFloat64(at + 4 * WORD, HEADS[first + 4], true);
-  if (length > MOST_LENGTH) {
-    view.setFloat64(at + 5 * WORD, HEADS[first + 5], true);
-    view.setFloat64(at + 6 * WORD, HEADS[first + 6], true);
-    view.setFloat64(at + 7 * WORD, HEADS[first + 7], true);
-  }
-  return at + length;
+  view.setFloat64(at + 5 * WORD, HEADS[first + 5], true);
+  view.setFloat64(at + 6 * WORD, HEADS[first + 6], true);
+  return at + HEAD_LENGTHS[head];
 }
 
 // A number below a milliard, and a comma.

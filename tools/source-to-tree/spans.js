@@ -64,7 +64,7 @@ class ByteOffsets {
     let from = block;
     while (from > 0 && block - from < MOST_BLOCKS && blocks[from - 1] === more) from--;
     let to = block + 1;
-    while (to - block < MOST_BLOCKS && blocks[to + 1] === more) to++;
+    while (to - block < MOST_BLOCKS && to + 1 < blocks.length && blocks[to + 1] === more) to++;
     return [from << BLOCK_BITS, Math.min(to << BLOCK_BITS, last + 1)];
   }
 

@@ -74,6 +74,7 @@ const LINE = wordsOf('"line"]');
 const MARK = '\ufeff';
 
 const NOWHERE = -1;
+const NOT_THERE = -1; // in place of a number of marks: the text isn't taken from the source
 
 class TreeWriter {
   // There is room for so many comments.
@@ -97,7 +98,7 @@ class TreeWriter {
 
   // A node whose children follow until close.
   open(role, kind, start, end, text = '', marks = NO_MARKS) {
-    this.leaf(role, kind, start, end, text, marks);
+    this.row(role, kind, start, end, NOT_THERE, text, marks);
     if (kind.isFunction && this.outermost === NOWHERE) this.outermost = this.depth;
     this.depth += 1;
   }
@@ -108,64 +109,20 @@ class TreeWriter {
   }
 
   leaf(role, kind, start, end, text = '', marks = NO_MARKS) {
-    const { bytes } = this;
-    const at = this.begin(role, kind, start, end);
-    if (text.length === 0 && marks.length === 0) {
-      bytes.view.setFloat64(at, NO_TEXT, true);
-      bytes.end = at + NO_TEXT_LENGTH;
-    } else {
-      bytes.end = at;
-      const tail = marks.length > 0 ? undefined : TAILS.get(text);
-      if (tail === undefined) this.finishText(text, marks);
-      else bytes.copy(tail);
-    }
-    if (bytes.end > this.most) throw new Refusal('too large');
-    if (!kind.isPlain) this.notice(kind, text, marks);
-  }
-
-  // A leaf that is a name, or is otherwise spelled without what needs an escape in JSON. Where the source has as many units as the text, none
-  // of them is an escape of the source, and it is copied from there.
-  name(role, kind, start, end, text, marks = NO_MARKS) {
-    const { near, offsets, bytes } = this;
-    const at = this.begin(role, kind, start, end);
-    const length = end - start;
-    if (text.length !== length || length > LONGEST_NAME || !near.has(end) || offsets.mayLackHalves) {
-      bytes.end = at;
-      this.finishText(text, marks);
-    } else {
-      bytes.view.setUint8(at, QUOTE);
-      offsets.utf8.copyShort(start + near.more - offsets.shift, length, bytes.view, at + 1);
-      bytes.end = at + 1 + length;
-      if (marks.length > 0) {
-        bytes.copy(endFor(marks));
-      } else {
-        bytes.view.setFloat64(bytes.end, NAME_END, true);
-        bytes.end += NAME_END_LENGTH;
-      }
-    }
-    if (bytes.end > this.most) throw new Refusal('too large');
+    this.row(role, kind, start, end, NOT_THERE, text, marks);
   }
 
   // A leaf whose text the source has at its place, too, without so many marks on each side, unless that is spelled with escapes there. Where
-  // it is as long and begins so, it is copied from there.
+  // it is as long and begins so, it is copied from there. What has no marks round it has nothing that JSON escapes, either.
   spelled(role, kind, start, end, marksRound, text, marks = NO_MARKS) {
-    const { bytes, offsets } = this;
-    bytes.end = this.begin(role, kind, start, end);
-    const { text: source, mayLackHalves } = offsets;
-    const isThere = text.length === end - start - 2 * marksRound && text.charCodeAt(0) === source.charCodeAt(start + marksRound);
-    if (isThere && !mayLackHalves) {
-      const before = marksRound - offsets.shift;
-      this.finishSpelled(offsets.at(start) + before, offsets.at(end) - marksRound - offsets.shift, text, marks);
-    } else {
-      this.finishText(text, marks);
-    }
-    if (bytes.end > this.most) throw new Refusal('too large');
-    if (!kind.isPlain) this.notice(kind, text, marks);
+    const { text: source, mayLackHalves } = this.offsets;
+    const isThere = !mayLackHalves && text.length === end - start - 2 * marksRound && text.length > 0
+      && text.charCodeAt(0) === source.charCodeAt(start + marksRound);
+    this.row(role, kind, start, end, isThere ? marksRound : NOT_THERE, text, marks);
   }
 
-  // Writes a row as far as before its text, and gives the place there. It writes out what others could do for it, and is so too large for
-  // an engine to compile it anew with each function that leads to it.
-  begin(role, kind, start, end) {
+  // It writes out what others could do for it, and is so too large for an engine to compile it anew with each function that leads to it.
+  row(role, kind, start, end, marksRound, text, marks) {
     const { bytes, near, depth } = this;
     if (depth > DEEPEST) throw new Refusal('too deep');
     if (kind.isTyped && !this.isTyped) throw new Refusal(TYPED_ONLY, start);
@@ -176,11 +133,41 @@ class TreeWriter {
     const { view } = bytes;
     view.setFloat64(at, BEGINS[depth], true);
     at = putHead(view, at + BEGIN_LENGTHS[depth], kind.headFor(role));
-    const from = start - near.low;
-    if (!(from >= 0 && from < near.count)) near.moveTo(start);
+    if (!near.has(start)) near.moveTo(start);
     at = near.put(view, at, start);
-    const to = end - near.low;
-    return to >= 0 && to < near.count ? near.put(view, at, end) : putNumber(view, at, this.offsets.at(end));
+    const isNear = near.has(end);
+    at = isNear ? near.put(view, at, end) : putNumber(view, at, this.offsets.at(end));
+    const length = end - start;
+    if (marksRound === 0 && isNear && length <= LONGEST_NAME) {
+      view.setUint8(at, QUOTE);
+      this.offsets.utf8.copyShort(start + near.more - this.offsets.shift, length, view, at + 1);
+      at += 1 + length;
+      view.setFloat64(at, NAME_END, true);
+      bytes.end = at + NAME_END_LENGTH;
+      if (marks.length > 0) {
+        bytes.end = at;
+        bytes.copy(endFor(marks));
+      }
+    } else if (marksRound === NOT_THERE && text.length === 0 && marks.length === 0) {
+      view.setFloat64(at, NO_TEXT, true);
+      bytes.end = at + NO_TEXT_LENGTH;
+    } else {
+      bytes.end = at;
+      this.finishRow(start, end, marksRound, text, marks);
+    }
+    if (bytes.end > this.most) throw new Refusal('too large');
+    if (!kind.isPlain) this.notice(kind, text, marks);
+  }
+
+  // The text and what stands behind it.
+  finishRow(start, end, marksRound, text, marks) {
+    const { offsets } = this;
+    if (marksRound !== NOT_THERE) {
+      const before = marksRound - offsets.shift;
+      return this.finishSpelled(offsets.at(start) + before, offsets.at(end) - marksRound - offsets.shift, text, marks);
+    }
+    const tail = marks.length > 0 ? undefined : TAILS.get(text);
+    return tail === undefined ? this.finishText(text, marks) : this.bytes.copy(tail);
   }
 
   // The text, which the source has from one byte to another, and what stands behind it.

@@ -72,11 +72,6 @@ class EstreeConversion {
     this.writer.leaf(role, kindOf(name), start, end, text, marks);
   }
 
-  // A leaf that is a name or a number.
-  name(role, kind, start, end, text, marks) {
-    this.writer.name(role, kind, start, end, text, marks);
-  }
-
   // A leaf whose text the source has between so many marks on each side, unless that is spelled with escapes.
   spelled(role, kind, start, end, marksRound, text, marks) {
     this.writer.spelled(role, kind, start, end, marksRound, text, marks);
@@ -94,10 +89,6 @@ class EstreeConversion {
 
 // A tree of another tool, whose texts needn't be those of the source.
 class ForeignConversion extends EstreeConversion {
-  name(role, kind, start, end, text, marks) {
-    this.writer.leaf(role, kind, start, end, text, marks);
-  }
-
   spelled(role, kind, start, end, marksRound, text, marks) {
     this.writer.leaf(role, kind, start, end, text, marks);
   }

@@ -14,7 +14,7 @@ const spelling = (c, { start, end }) => c.text.slice(start, end);
 function number(c, role, node) {
   const { start, end } = node;
   const raw = c.text.slice(start, end);
-  c.name(role, NUMBER, start, end, raw, [numberBase(raw)]);
+  c.spelled(role, NUMBER, start, end, 0, raw, [numberBase(raw)]);
 }
 
 const LITERALS = {

@@ -9,7 +9,7 @@ function identifier(name) {
   return (c, role, node) => {
     if (node.type !== 'Identifier') c.refuse(node, `${node.type} can't be a name`);
     const annotated = node.typeAnnotation || node.optional;
-    c.name(role, kind, node.start, annotated ? c.nameEnd(node.start) : node.end, node.name);
+    c.spelled(role, kind, node.start, annotated ? c.nameEnd(node.start) : node.end, 0, node.name);
   };
 }
 
@@ -21,7 +21,7 @@ visit.label = identifier('LabelIdentifier');
 const NAME = kindOf('IdentifierName');
 visit.name = (c, role, node) => {
   if (node.typeAnnotation || node.optional) c.leaf(role, 'IdentifierName', node, node.name);
-  else c.name(role, NAME, node.start, node.end, node.name);
+  else c.spelled(role, NAME, node.start, node.end, 0, node.name);
 };
 
 visit.privateName = (c, role, node) => c.leaf(role, 'PrivateIdentifier', node, node.name || node.id.name);
