@@ -136,11 +136,13 @@ class TreeWriter {
     if (!near.has(start)) near.moveTo(start);
     at = near.put(view, at, start);
     const isNear = near.has(end);
-    at = isNear ? near.put(view, at, end) : putNumber(view, at, this.offsets.at(end));
+    const behind = isNear ? end + near.more : this.offsets.at(end);
+    at = isNear ? near.put(view, at, end) : putNumber(view, at, behind);
+    const first = start + near.more - this.offsets.shift; // of its bytes in the text
     const length = end - start;
     if (marksRound === 0 && isNear && length <= LONGEST_NAME) {
       view.setUint8(at, QUOTE);
-      this.offsets.utf8.copyShort(start + near.more - this.offsets.shift, length, view, at + 1);
+      this.offsets.utf8.copyShort(first, length, view, at + 1);
       at += 1 + length;
       view.setFloat64(at, NAME_END, true);
       bytes.end = at + NAME_END_LENGTH;
@@ -153,21 +155,11 @@ class TreeWriter {
       bytes.end = at + NO_TEXT_LENGTH;
     } else {
       bytes.end = at;
-      this.finishRow(start, end, marksRound, text, marks);
+      if (marksRound === NOT_THERE) this.finishText(text, marks);
+      else this.finishSpelled(first + marksRound, behind - this.offsets.shift - marksRound, text, marks);
     }
     if (bytes.end > this.most) throw new Refusal('too large');
     if (!kind.isPlain) this.notice(kind, text, marks);
-  }
-
-  // The text and what stands behind it.
-  finishRow(start, end, marksRound, text, marks) {
-    const { offsets } = this;
-    if (marksRound !== NOT_THERE) {
-      const before = marksRound - offsets.shift;
-      return this.finishSpelled(offsets.at(start) + before, offsets.at(end) - marksRound - offsets.shift, text, marks);
-    }
-    const tail = marks.length > 0 ? undefined : TAILS.get(text);
-    return tail === undefined ? this.finishText(text, marks) : this.bytes.copy(tail);
   }
 
   // The text, which the source has from one byte to another, and what stands behind it.
@@ -176,12 +168,17 @@ class TreeWriter {
     bytes.reserve(ROW_ROOM + to - from);
     bytes.view.setUint8(bytes.end, QUOTE);
     const end = this.offsets.utf8.copyPlain(from, to, bytes.view, bytes.end + 1);
-    if (end === -1) return this.finishText(text, marks);
+    if (end === -1) return this.finishUnits(text, marks);
     bytes.end = end;
     return bytes.copy(marks.length === 0 ? NO_MARK_END : endFor(marks));
   }
 
   finishText(text, marks) {
+    const tail = marks.length > 0 ? undefined : TAILS.get(text);
+    return tail === undefined ? this.finishUnits(text, marks) : this.bytes.copy(tail);
+  }
+
+  finishUnits(text, marks) {
     const { bytes } = this;
     bytes.reserve(ROW_ROOM + text.length);
     const { view } = bytes;
