@@ -80,8 +80,7 @@ class TreeWriter {
   // There is room for so many comments.
   constructor(offsets, lang, comments) {
     const gap = HEAD + COMMENT * comments;
-    this.offsets = offsets;
-    this.near = new NearPlaces(offsets);
+    this.takeOffsets(offsets);
     this.isTyped = lang !== 'js' && lang !== 'jsx';
     this.start = gap;
     this.most = gap + MOST_BYTES;
@@ -94,6 +93,12 @@ class TreeWriter {
     this.outermost = NOWHERE; // the depth of the outermost function that is open
     this.isModule = false;
     this.hasJsx = false;
+  }
+
+  // The places of nodes are those of these offsets from now on.
+  takeOffsets(offsets) {
+    this.offsets = offsets;
+    this.near = new NearPlaces(offsets);
   }
 
   // A node whose children follow until close.
