@@ -37,15 +37,33 @@ const BEHIND = 6 * WORD;
 
 const MOST_BYTES = 3; // of a unit; where all have room, the engine doesn't count them beforehand
 
+// The memory of the last text that needs it no more, kept for the next: where much of it is taken anew, the engine collects garbage.
+const MOST_KEPT = 33554432;
+let kept = Buffer.alloc(0);
+
+function takeRoom(count) {
+  if (kept.length < count) return Buffer.allocUnsafeSlow(count);
+  const taken = kept;
+  kept = Buffer.alloc(0);
+  return taken;
+}
+
 // The bytes of a text.
 class Utf8 {
   constructor(text) {
-    const buffer = Buffer.allocUnsafeSlow(MOST_BYTES * text.length + BEHIND);
+    const buffer = takeRoom(MOST_BYTES * text.length + BEHIND);
     const length = buffer.utf8Write(text);
     buffer.fill(SPACE, length, length + BEHIND);
+    this.buffer = buffer;
     this.length = length;
     this.bytes = buffer.subarray(0, length);
     this.view = new DataView(buffer.buffer, buffer.byteOffset, buffer.length);
+  }
+
+  // They are needed no more.
+  giveBack() {
+    if (this.buffer.length > kept.length && this.buffer.length <= MOST_KEPT) kept = this.buffer;
+    this.buffer = this.bytes = this.view = null;
   }
 
   // The place from here on, or behind all bytes, before which all are of ASCII and behind which one of four isn't.

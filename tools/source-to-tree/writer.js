@@ -50,7 +50,8 @@ const NO_TEXT_LENGTH = TAILS.get('').length;
 const [NAME_END] = NO_MARK_END.words;
 const NAME_END_LENGTH = NO_MARK_END.length;
 
-const ROWS = 1024; // at first
+const FEW_ROWS = 1024;
+const UNITS_PER_ROW = 8; // or more, as most sources have them
 
 function grown(places) {
   const longer = new Uint32Array(2 * places.length);
@@ -60,7 +61,13 @@ function grown(places) {
 
 const ROW_ROOM = 512; // for a row without its text: no role, kind or list of marks is half as long
 const LONGEST_NAME = 256; // that has room in it
-const BYTES_PER_UNIT = 10; // of a tree, by its source: more than most have
+// Bytes of a tree for a unit of its source: more than most have. For a large one it's fewer, since an engine collects garbage where much
+// memory is taken at once.
+const BYTES_PER_UNIT = 10;
+const BYTES_PER_UNIT_OF_LARGE = 8;
+const LARGE = 1048576;
+
+const roomFor = (units) => Math.min(units * (units < LARGE ? BYTES_PER_UNIT : BYTES_PER_UNIT_OF_LARGE), MOST_BYTES);
 
 const FEW_ESCAPES = 3; // a text has fewer than one for two to the power of this many bytes, or is rare
 
@@ -85,9 +92,9 @@ class TreeWriter {
     this.start = gap;
     this.most = gap + MOST_BYTES;
     this.last = gap; // the place behind the rows
-    this.bytes = new Bytes(gap + ROW_ROOM + Math.min(BYTES_PER_UNIT * offsets.last, MOST_BYTES));
+    this.bytes = new Bytes(gap + ROW_ROOM + roomFor(offsets.last));
     this.bytes.end = gap;
-    this.places = new Uint32Array(ROWS); // where the rows begin
+    this.places = new Uint32Array(FEW_ROWS + Math.ceil(offsets.last / UNITS_PER_ROW)); // where the rows begin
     this.rows = 0;
     this.depth = 0;
     this.outermost = NOWHERE; // the depth of the outermost function that is open
@@ -262,12 +269,13 @@ class TreeWriter {
 
   // The whole text of the tree, as bytes.
   finish({ source, goal, lang, comments }) {
-    const { bytes } = this;
+    const { bytes, offsets } = this;
     this.last = bytes.end;
     const head = this.headOf({ goal, lang, comments });
     bytes.ascii('],"source":');
     this.putSource(source);
     bytes.ascii('}');
+    offsets.utf8.giveBack();
     if (head.length + bytes.end - this.start > MOST_BYTES) throw new Refusal('too large');
     if (head.length > this.start) return Buffer.concat([head, bytes.buffer.subarray(this.start, bytes.end)]);
     const first = this.start - head.length;
