@@ -60,7 +60,8 @@ function grown(places) {
 }
 
 const ROW_ROOM = 512; // for a row without its text: no role, kind or list of marks is half as long
-const LONGEST_NAME = 256; // that has room in it
+const LONGEST_NAME = 256; // that has room in it, too
+
 // Bytes of a tree for a unit of its source: more than most have. For a large one it's fewer, since an engine collects garbage where much
 // memory is taken at once.
 const BYTES_PER_UNIT = 10;
