@@ -8,8 +8,8 @@ const THOUSAND = 1000;
 
 // An ASCII text as words, and how many bytes it has. The words are numbers in the engine's own form, since these are read and written
 // eight bytes at once; bytes of ASCII are never those of what is no number.
-function wordsOf(text, fewest = 1) {
-  const bytes = Buffer.alloc(WORD * Math.max(fewest, Math.ceil(text.length / WORD)));
+function wordsOf(text) {
+  const bytes = Buffer.alloc(WORD * Math.max(1, Math.ceil(text.length / WORD)));
   bytes.latin1Write(text);
   const words = new Float64Array(bytes.length / WORD);
   for (let i = 0; i < words.length; i++) words[i] = bytes.readDoubleLE(WORD * i);
@@ -41,16 +41,23 @@ function putPadded(view, at, value) {
   return at + 3;
 }
 
-const HEAD_WORDS = 5; // that nearly every head has, with those behind its end
+// Heads of rows, each in as many words, by their numbers. There is room for more than are ever made, of which the memory isn't taken.
+const HEAD_ROOM = 8; // none has more than seven
+const MOST_HEADS = 16384;
+const HEADS = new Float64Array(HEAD_ROOM * MOST_HEADS);
+const HEAD_LENGTHS = new Uint8Array(MOST_HEADS);
 
-// Writes words of which there are at least as many. It has no loop for these, since processors guess wrongly where a short one ends.
-function putHead(view, at, words) {
-  view.setFloat64(at, words[0], true);
-  view.setFloat64(at + WORD, words[1], true);
-  view.setFloat64(at + 2 * WORD, words[2], true);
-  view.setFloat64(at + 3 * WORD, words[3], true);
-  view.setFloat64(at + 4 * WORD, words[4], true);
-  for (let i = HEAD_WORDS; i < words.length; i++) view.setFloat64(at + i * WORD, words[i], true);
+// Writes a head, and gives the place behind it. It writes the words of the longest, since processors guess wrongly where a short one ends.
+function putHead(view, at, head) {
+  const first = HEAD_ROOM * head;
+  view.setFloat64(at, HEADS[first], true);
+  view.setFloat64(at + WORD, HEADS[first + 1], true);
+  view.setFloat64(at + 2 * WORD, HEADS[first + 2], true);
+  view.setFloat64(at + 3 * WORD, HEADS[first + 3], true);
+  view.setFloat64(at + 4 * WORD, HEADS[first + 4], true);
+  view.setFloat64(at + 5 * WORD, HEADS[first + 5], true);
+  view.setFloat64(at + 6 * WORD, HEADS[first + 6], true);
+  return at + HEAD_LENGTHS[head];
 }
 
 // A number below a milliard, and a comma.
@@ -108,4 +115,4 @@ class Bytes {
   }
 }
 
-module.exports = { Bytes, HEAD_WORDS, WORD, putHead, putNumber, wordsOf };
+module.exports = { Bytes, HEADS, HEAD_LENGTHS, HEAD_ROOM, PADDED, THOUSAND, WORD, putHead, putNumber, wordsOf };

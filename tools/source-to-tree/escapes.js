@@ -33,17 +33,45 @@ function escapedIn(word) {
 const firstByte = (bits) => (31 - Math.clz32(bits & -bits)) >> 3;
 
 // What is read of a source reaches so many bytes behind its end, where spaces stand.
-const BEHIND = 2 * WORD;
+const BEHIND = 6 * WORD;
+
+const MOST_BYTES = 3; // of a unit; where all have room, the engine doesn't count them beforehand
+
+// The memory of the last text that needs it no more, kept for the next: where much of it is taken anew, the engine collects garbage.
+const MOST_KEPT = 33554432;
+let kept = Buffer.alloc(0);
+
+function takeRoom(count) {
+  if (kept.length < count) return Buffer.allocUnsafeSlow(count);
+  const taken = kept;
+  kept = Buffer.alloc(0);
+  return taken;
+}
 
 // The bytes of a text.
 class Utf8 {
   constructor(text) {
-    const length = Buffer.byteLength(text);
-    const buffer = Buffer.allocUnsafeSlow(length + BEHIND).fill(SPACE, length);
-    buffer.utf8Write(text);
+    const buffer = takeRoom(MOST_BYTES * text.length + BEHIND);
+    const length = buffer.utf8Write(text);
+    buffer.fill(SPACE, length, length + BEHIND);
+    this.buffer = buffer;
     this.length = length;
     this.bytes = buffer.subarray(0, length);
     this.view = new DataView(buffer.buffer, buffer.byteOffset, buffer.length);
+  }
+
+  // They are needed no more.
+  giveBack() {
+    if (this.buffer.length > kept.length && this.buffer.length <= MOST_KEPT) kept = this.buffer;
+    this.buffer = this.bytes = this.view = null;
+  }
+
+  // The place from here on, or behind all bytes, before which all are of ASCII and behind which one of four isn't.
+  asciiEnd(from) {
+    const { view, length } = this;
+    let at = from;
+    while (at < length && (view.getInt32(at, true) & HIGHEST) === 0) at += WORD;
+    return Math.min(at, length);
   }
 
   // Copies all bytes to a place of another view on, where there is room for so many escapes and a word, and gives the place behind them; -1
@@ -69,6 +97,14 @@ class Utf8 {
       at += before + 2;
     }
     return at - (next - length);
+  }
+
+  // Copies so many bytes, and some behind them, to where there is room for that. UTF-8 has no bytes that would be no number.
+  copyShort(from, length, target, at) {
+    const { view } = this;
+    target.setFloat64(at, view.getFloat64(from, true), true);
+    target.setFloat64(at + 2 * WORD, view.getFloat64(from + 2 * WORD, true), true);
+    for (let next = 4 * WORD; next < length; next += 2 * WORD) target.setFloat64(at + next, view.getFloat64(from + next, true), true);
   }
 
   // Copies bytes that need no escape, and gives the place behind them; -1 where one needs it.

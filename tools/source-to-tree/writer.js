@@ -4,6 +4,7 @@
 const { Refusal } = require('./refusal');
 const { Bytes, WORD, putHead, putNumber, wordsOf } = require('./bytes');
 const { isPlain } = require('./escapes');
+const { NearPlaces } = require('./near-places');
 const { firstPlace } = require('./row-places');
 
 const DEEPEST = 1000;
@@ -19,12 +20,13 @@ const TYPED_ONLY = 'types and declarations of TypeScript stand in TypeScript fil
 
 const QUOTE = 0x22;
 
-const BEGINS = []; // how a row begins, by its depth, where one was that deep: it is a single word
-
-// The first row is the root's.
-function beginOf(depth) {
-  BEGINS[depth] ??= wordsOf(depth === 0 ? '[0' : `,[${depth}`);
-  return BEGINS[depth];
+// How a row begins, by its depth: a single word, and how many bytes of it count. The first row is the root's.
+const BEGINS = new Float64Array(DEEPEST + 1);
+const BEGIN_LENGTHS = new Uint8Array(DEEPEST + 1);
+for (let depth = 0; depth <= DEEPEST; depth++) {
+  const { words, length } = wordsOf(depth === 0 ? '[0' : `,[${depth}`);
+  BEGINS[depth] = words[0];
+  BEGIN_LENGTHS[depth] = length;
 }
 
 // The end of a row, from the end of its text on, for each mark alone and for none.
@@ -43,9 +45,13 @@ const TEXTS = ['', 'declaration', 'expression', 'formal', 'unique', 'arrow', 'in
   '<', '<=', '>', '>=', '+', '-', '*', '/', '%', '**', '|', '&', '^', '<<', '>>', '>>>', '||', '&&', '??', '!', '~', '++', '--', 'in', 'instanceof',
   'typeof', 'void', 'delete'];
 const TAILS = new Map(TEXTS.map((text) => [text, wordsOf(`"${text}",[]]`)]));
-const NO_TEXT = TAILS.get('');
+const [NO_TEXT] = TAILS.get('').words;
+const NO_TEXT_LENGTH = TAILS.get('').length;
+const [NAME_END] = NO_MARK_END.words;
+const NAME_END_LENGTH = NO_MARK_END.length;
 
-const ROWS = 1024; // at first
+const FEW_ROWS = 1024;
+const UNITS_PER_ROW = 8; // or more, as most sources have them
 
 function grown(places) {
   const longer = new Uint32Array(2 * places.length);
@@ -54,7 +60,15 @@ function grown(places) {
 }
 
 const ROW_ROOM = 512; // for a row without its text: no role, kind or list of marks is half as long
-const BYTES_PER_UNIT = 10; // of a tree, by its source: more than most have
+const LONGEST_NAME = 256; // that has room in it, too
+
+// Bytes of a tree for a unit of its source: more than most have. For a large one it's fewer, since an engine collects garbage where much
+// memory is taken at once.
+const BYTES_PER_UNIT = 10;
+const BYTES_PER_UNIT_OF_LARGE = 8;
+const LARGE = 1048576;
+
+const roomFor = (units) => Math.min(units * (units < LARGE ? BYTES_PER_UNIT : BYTES_PER_UNIT_OF_LARGE), MOST_BYTES);
 
 const FEW_ESCAPES = 3; // a text has fewer than one for two to the power of this many bytes, or is rare
 
@@ -74,19 +88,25 @@ class TreeWriter {
   // There is room for so many comments.
   constructor(offsets, lang, comments) {
     const gap = HEAD + COMMENT * comments;
-    this.offsets = offsets;
+    this.takeOffsets(offsets);
     this.isTyped = lang !== 'js' && lang !== 'jsx';
     this.start = gap;
     this.most = gap + MOST_BYTES;
     this.last = gap; // the place behind the rows
-    this.bytes = new Bytes(gap + ROW_ROOM + Math.min(BYTES_PER_UNIT * offsets.last, MOST_BYTES));
+    this.bytes = new Bytes(gap + ROW_ROOM + roomFor(offsets.last));
     this.bytes.end = gap;
-    this.places = new Uint32Array(ROWS); // where the rows begin
+    this.places = new Uint32Array(FEW_ROWS + Math.ceil(offsets.last / UNITS_PER_ROW)); // where the rows begin
     this.rows = 0;
     this.depth = 0;
     this.outermost = NOWHERE; // the depth of the outermost function that is open
     this.isModule = false;
     this.hasJsx = false;
+  }
+
+  // The places of nodes are those of these offsets from now on.
+  takeOffsets(offsets) {
+    this.offsets = offsets;
+    this.near = new NearPlaces(offsets);
   }
 
   // A node whose children follow until close.
@@ -106,38 +126,50 @@ class TreeWriter {
   }
 
   // A leaf whose text the source has at its place, too, without so many marks on each side, unless that is spelled with escapes there. Where
-  // it is as long and begins so, it is copied from there.
+  // it is as long and begins so, it is copied from there. What has no marks round it has nothing that JSON escapes, either.
   spelled(role, kind, start, end, marksRound, text, marks = NO_MARKS) {
     const { text: source, mayLackHalves } = this.offsets;
-    const isThere = text.length === end - start - 2 * marksRound && text.charCodeAt(0) === source.charCodeAt(start + marksRound);
-    this.row(role, kind, start, end, isThere && !mayLackHalves ? marksRound : NOT_THERE, text, marks);
+    const isThere = !mayLackHalves && text.length === end - start - 2 * marksRound && text.length > 0
+      && text.charCodeAt(0) === source.charCodeAt(start + marksRound);
+    this.row(role, kind, start, end, isThere ? marksRound : NOT_THERE, text, marks);
   }
 
   // It writes out what others could do for it, and is so too large for an engine to compile it anew with each function that leads to it.
   row(role, kind, start, end, marksRound, text, marks) {
-    const { bytes, offsets, depth } = this;
+    const { bytes, near, depth } = this;
     if (depth > DEEPEST) throw new Refusal('too deep');
     if (kind.isTyped && !this.isTyped) throw new Refusal(TYPED_ONLY, start);
-    bytes.reserve(ROW_ROOM);
-    const { view } = bytes;
-    const begin = BEGINS[depth] ?? beginOf(depth);
-    const head = kind.lastRole === role ? kind.lastHead : kind.headFor(role);
     let at = bytes.end;
+    if (at + ROW_ROOM > bytes.room) bytes.grow(at + ROW_ROOM);
     if (this.rows === this.places.length) this.places = grown(this.places);
     this.places[this.rows++] = at;
-    view.setFloat64(at, begin.words[0], true);
-    at += begin.length;
-    putHead(view, at, head.words);
-    const first = offsets.at(start);
-    const behind = offsets.at(end);
-    bytes.end = putNumber(view, putNumber(view, at + head.length, first), behind);
-    if (marksRound !== NOT_THERE) {
-      const before = offsets.shift - marksRound;
-      this.finishSpelled(first - before, behind - marksRound - offsets.shift, text, marks);
+    const { view } = bytes;
+    view.setFloat64(at, BEGINS[depth], true);
+    at = putHead(view, at + BEGIN_LENGTHS[depth], kind.headFor(role));
+    if (!near.has(start)) near.moveTo(start);
+    at = near.put(view, at, start);
+    const isNear = near.has(end);
+    const behind = isNear ? end + near.more : this.offsets.at(end);
+    at = isNear ? near.put(view, at, end) : putNumber(view, at, behind);
+    const first = start + near.more - this.offsets.shift; // of its bytes in the text
+    const length = end - start;
+    if (marksRound === 0 && isNear && length <= LONGEST_NAME) {
+      view.setUint8(at, QUOTE);
+      this.offsets.utf8.copyShort(first, length, view, at + 1);
+      at += 1 + length;
+      view.setFloat64(at, NAME_END, true);
+      bytes.end = at + NAME_END_LENGTH;
+      if (marks.length > 0) {
+        bytes.end = at;
+        bytes.copy(endFor(marks));
+      }
+    } else if (marksRound === NOT_THERE && text.length === 0 && marks.length === 0) {
+      view.setFloat64(at, NO_TEXT, true);
+      bytes.end = at + NO_TEXT_LENGTH;
     } else {
-      const tail = marks.length > 0 ? undefined : text === '' ? NO_TEXT : TAILS.get(text);
-      if (tail === undefined) this.finishText(text, marks);
-      else bytes.copy(tail);
+      bytes.end = at;
+      if (marksRound === NOT_THERE) this.finishText(text, marks);
+      else this.finishSpelled(first + marksRound, behind - this.offsets.shift - marksRound, text, marks);
     }
     if (bytes.end > this.most) throw new Refusal('too large');
     if (!kind.isPlain) this.notice(kind, text, marks);
@@ -149,12 +181,17 @@ class TreeWriter {
     bytes.reserve(ROW_ROOM + to - from);
     bytes.view.setUint8(bytes.end, QUOTE);
     const end = this.offsets.utf8.copyPlain(from, to, bytes.view, bytes.end + 1);
-    if (end === -1) return this.finishText(text, marks);
+    if (end === -1) return this.finishUnits(text, marks);
     bytes.end = end;
     return bytes.copy(marks.length === 0 ? NO_MARK_END : endFor(marks));
   }
 
   finishText(text, marks) {
+    const tail = marks.length > 0 ? undefined : TAILS.get(text);
+    return tail === undefined ? this.finishUnits(text, marks) : this.bytes.copy(tail);
+  }
+
+  finishUnits(text, marks) {
     const { bytes } = this;
     bytes.reserve(ROW_ROOM + text.length);
     const { view } = bytes;
@@ -233,12 +270,13 @@ class TreeWriter {
 
   // The whole text of the tree, as bytes.
   finish({ source, goal, lang, comments }) {
-    const { bytes } = this;
+    const { bytes, offsets } = this;
     this.last = bytes.end;
     const head = this.headOf({ goal, lang, comments });
     bytes.ascii('],"source":');
     this.putSource(source);
     bytes.ascii('}');
+    offsets.utf8.giveBack();
     if (head.length + bytes.end - this.start > MOST_BYTES) throw new Refusal('too large');
     if (head.length > this.start) return Buffer.concat([head, bytes.buffer.subarray(this.start, bytes.end)]);
     const first = this.start - head.length;

@@ -275,10 +275,21 @@ const EXPRESSIONS = {
   TSInstantiationExpression: instantiation,
 };
 
-// Half of all expressions are of two types, for which the table isn't asked.
+// Most expressions are of these types, for which the table isn't asked.
 function expressionOf(c, role, node, type) {
-  if (type === 'Identifier') return visit.reference(c, role, node);
-  if (type === 'MemberExpression') return member(c, role, node);
+  switch (type) {
+    case 'Identifier': return visit.reference(c, role, node);
+    case 'MemberExpression': return member(c, role, node);
+    case 'Literal': return visit.literal(c, role, node);
+    case 'CallExpression': return call(c, role, node);
+    case 'ThisExpression': return thisExpression(c, role, node);
+    case 'BinaryExpression': return binary(c, role, node);
+    case 'AssignmentExpression': return assignment(c, role, node);
+    default: return rareExpression(c, role, node, type);
+  }
+}
+
+function rareExpression(c, role, node, type) {
   const visitor = EXPRESSIONS[type];
   if (visitor === undefined) c.refuse(node, `${type} can't be an expression`);
   return visitor(c, role, node);

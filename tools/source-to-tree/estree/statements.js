@@ -141,11 +141,24 @@ function addDeclarations(visitors) {
 addDeclarations({ VariableDeclaration: visit.variables });
 
 visit.declaration = byType(DECLARATIONS, 'a declaration');
+
+// Most statements are of these types, for which the table isn't asked.
 visit.statement = (c, role, node) => {
   const type = node.type;
+  switch (type) {
+    case 'ExpressionStatement': return expressionStatement(c, role, node);
+    case 'IfStatement': return ifStatement(c, role, node);
+    case 'VariableDeclaration': return visit.variables(c, role, node);
+    case 'ReturnStatement': return returnStatement(c, role, node);
+    case 'BlockStatement': return visit.block(c, role, node);
+    default: return rareStatement(c, role, node, type);
+  }
+};
+
+function rareStatement(c, role, node, type) {
   const visitor = STATEMENTS[type];
   if (visitor === undefined) c.refuse(node, `${type} can't be a statement`);
   visitor(c, role, node);
-};
+}
 
 module.exports = { STATEMENTS, addDeclarations };

@@ -143,7 +143,7 @@ function writeStatements(conversion, statements, mayBeDirectives) {
 function write(request, { before, fresh, part, to }, writer, begins) {
   const { ts, text, from, faults } = part;
   const { offsets } = writer;
-  writer.offsets = new ByteOffsets(text, offsets.at(from));
+  writer.takeOffsets(new ByteOffsets(text, offsets.at(from)));
   const conversion = new TypeScriptConversion(ts, text, writer, new Annotations(text));
   let mayBeDirectives = !endDirectives(before);
   const pieces = fresh.map(({ statements, ...piece }) => {
@@ -151,7 +151,7 @@ function write(request, { before, fresh, part, to }, writer, begins) {
     mayBeDirectives = mayBeDirectives && !piece.hasOthers;
     return { ...piece, ...written };
   });
-  writer.offsets = offsets;
+  writer.takeOffsets(offsets);
   if (typescript.firstOutside(faults.filter(({ start }) => start < to - from), conversion.allowed) !== undefined) throw new Unfit();
   const comments = commentsOf(text.slice(0, to - from), conversion.hidden, conversion.afterHashbang);
   return { pieces, comments: comments.map(({ block, start, end }) => ({ block, start: from + start, end: from + end })) };
