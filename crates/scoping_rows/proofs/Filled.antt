@@ -194,24 +194,8 @@ count_filled (x ∷ xs) = by x (count_filled xs)
     by None l = omega (arith, l)
     by (Some b) l = omega (arith, l)
 
--- what slots are empty, as one is written, and as the last ones go
+-- how many slots are empty, as one more comes, and as the last ones go
 module _ (empty : ℕ) (xs : SlotList) (is : empty + length (filled xs) ≡ length xs) where
-  module _ (i count : ℕ) (slot : Option (ℕ × ℕ)) (within : i < length xs) (counted : count ≡ length (option_to_list slot)) (read : slot ≡ get_or xs i None) where
-    was : count ≡ length (option_to_list (get_or xs i None))
-    was = counted ∙ ap (λ x. length (option_to_list x)) read
-
-    pub empty-clear : empty + count + length (filled (set xs i None)) ≡ length (set xs i None)
-    empty-clear = omega (arith, is, was, count_set xs i None within, length-set xs i None)
-
-    pub empty_below : empty + count ≤ length xs
-    empty_below = omega (arith, is, was, count_set xs i None within)
-
-    pub empty_above : 1 ≤ empty + count
-    empty_above = let x : Option (ℕ × ℕ) = Some (0, 0) in omega (arith, is, was, count_set xs i x within, count_filled (set xs i x), length-set xs i x)
-
-    pub empty-fill : (b : ℕ × ℕ) → empty + count - 1 + length (filled (set xs i (Some b))) ≡ length (set xs i (Some b))
-    empty-fill b = omega (arith, is, was, empty_above, count_set xs i (Some b) within, length-set xs i (Some b))
-
   pub empty-push : (b : ℕ × ℕ) → empty + length (filled (xs ++ Some b ∷ [])) ≡ length (xs ++ Some b ∷ [])
   empty-push b = omega (arith, is, ap length (filter_map-append (λ x. x) xs (Some b ∷ [])), length-append (filled xs) (b ∷ []), length-append xs (Some b ∷ []))
 

@@ -1,6 +1,7 @@
 pub mod Names
 pub mod Found
 pub mod Filled
+pub mod Slots
 pub mod Indexed
 pub mod Near
 pub mod Rows

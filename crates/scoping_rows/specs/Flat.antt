@@ -1,5 +1,5 @@
 -- What scopes bind, each binding in a slot of its scope, and one list of entries with the places of the slots.
-use Rattle.std.specs.Prelude.{◌≡◌, ◌<◌, ℕ, MatchOption, true, List, slice_index_or, ◌==◌, ◌&&◌, Bool, false, filter_map, nat_eq, Option, None, slice_set, [], ◌∷◌, cond, zero, suc, take, if◌then◌else◌}
+use Rattle.std.specs.Prelude.{◌≡◌, ◌<◌, ℕ, drop, MatchOption, true, List, slice_index_or, ◌==◌, ◌&&◌, Bool, false, filter_map, nat_eq, Option, None, slice_set, [], ◌∷◌, cond, zero, suc, take, if◌then◌else◌}
 use Rattle.std.specs.Option.{option_map_or}
 use Rattle.indexmap.specs.IndexMap.{insert_entry, shift_remove_entry}
 use Rattle.std.specs.Map.{lookup}
@@ -48,7 +48,7 @@ HasPositions es s xs = (n : ℕ) → StandsAt xs n (lookup (key_eq (s, n)) es)
 abbrev pub IsOnce : SlotList → Type 0
 IsOnce xs = (n : ℕ) → (position : Option ℕ) × StandsAt xs n position
 
--- how many slots of a scope have no entries, since they are searched one by one
+-- how many slots of a scope lie in the scope itself and have no entries, since they are searched all at once
 abbrev pub near : ℕ
 near = 8
 
@@ -66,6 +66,11 @@ far xs = hollow near xs
 abbrev pub IsNearPlace : SlotList → ℕ → Option ℕ → Type 0
 IsNearPlace xs n position = MatchOption position ((i : ℕ) → i < near → slot_binds n (slice_index_or xs i None) ≡ false)
     (λ i. slot_binds n (slice_index_or xs i None) ≡ true)
+
+-- what the first slot from the place on binds that binds something, and the place behind it
+abbrev pub IsNextBound : SlotList → ℕ → Option (ℕ × (ℕ × ℕ)) → Type 0
+IsNextBound xs start next = MatchOption next (filled (drop start xs) ≡ [])
+    (λ r. filled (drop start xs) ≡ r.1 ∷ filled (drop r.0 xs))
 
 -- the entries tell the places of the slots behind the first ones
 pub record IsIndexed (es : Entries) (s : ℕ) (xs : SlotList) : Type 0 where

@@ -1,5 +1,6 @@
 pub mod Names
 pub mod Flat
+pub mod Slots
 pub mod Tabled
 pub mod Row
 pub mod RowLending

@@ -1,5 +1,5 @@
 -- Declarations before the first async function or generator.
-use Rattle.std.specs.Prelude.{ℕ, List, Bool}
+use Rattle.std.specs.Prelude.{ℕ, List}
 use Rattle.std.specs.List.{position_or_len}
 use Rattle.semantic_syntax.specs.Sets.{meets}
 use Rattle.semantic_syntax.specs.declared.references.Redeclaration.{Redeclaration}

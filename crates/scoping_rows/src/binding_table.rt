@@ -6,7 +6,8 @@ ghost use Rattle.scoping_rows.specs.Flat.{key_eq, filled, far, near, moved_numbe
 ghost use Rattle.scoping_rows.specs.Kept.{rows_without_types, IsPacked};
 
 use crate::kept::stays;
-use crate::scope_slots::{BoundIter, NEAR, ScopeSlots};
+use crate::near_slots::NEAR;
+use crate::scope_slots::{BoundIter, ScopeSlots};
 use crate::symbol_row::SymbolRow;
 use indexmap::IndexMap;
 use semantic_syntax::{ScopeId, SymbolId};
@@ -47,6 +48,9 @@ fn position_of(
     requires { IsIndexed positions.now.entries scope slots.now }
     ensures { StandsAt slots.now number result }
 {
+    if slots.len() == 0 {
+        return None;
+    }
     if let Some(position) = slots.near_position(number) {
         return Some(position);
     }
@@ -113,7 +117,7 @@ fn bind(
     ensures err { OnErr result (filled slots.new ≡ filled slots.old) }
 {
     if let Some(position) = position_of(positions, slots, scope, number) {
-        slots.fill(position, number, symbol);
+        slots.rebind(position, symbol);
         return Ok(());
     }
     let position = slots.len();
@@ -151,13 +155,13 @@ fn settle(
         Some(bound) => bound,
         None => return packed,
     };
-    slots.clear(position);
     if !stays(rows, symbol) {
+        slots.clear(position);
         forget(positions, scope, number, position);
         return packed;
     }
     let _count = slots.len();
-    slots.fill(packed, number, symbol);
+    slots.relocate(position, packed);
     retell(positions, scope, number, position, packed);
     packed + 1
 }

@@ -5,6 +5,7 @@ pub mod binding_table;
 pub mod free_table;
 pub mod kept;
 pub mod name_table;
+pub mod near_slots;
 pub mod node_map;
 pub mod positions;
 pub mod redeclarations;

@@ -1,46 +1,65 @@
 //! The slots of one scope's bindings.
-ghost use Rattle.std.specs.Prelude.{◌≡◌, ◌<◌, ◌++◌, [], ◌∷◌, take, length, slice_index_or, slice_set, None, Some, OnOk, OnErr};
-ghost use Rattle.std.specs.Iterator.{at_most};
+ghost use Rattle.std.specs.Prelude.{ℕ, ◌≡◌, ◌<◌, ◌≤◌, ◌==◌, ◌++◌, [], ◌∷◌, take, drop, length, slice_index_or, slice_set, MatchOption, None, Some, OnOk, OnErr};
 ghost use Rattle.std.specs.Map.Iter.{TakesFirst};
-ghost use Rattle.std.specs.Slice.Iter.{iter_rest};
+ghost use Rattle.std.specs.Iterator.{at_most};
 ghost use Rattle.std.specs.Option.{option_to_list};
-ghost use Rattle.scoping_rows.specs.Flat.{filled, far, slot_binds, IsNearPlace};
+ghost use Rattle.scoping_rows.specs.Slots.{no_number, stored_slot};
+ghost use Rattle.scoping_rows.specs.Flat.{filled, far, IsNearPlace, IsNextBound};
 
+use crate::near_slots::{NEAR, NO_NUMBER, NearSlots};
 use semantic_syntax::SymbolId;
 use std::alloc::{AllocError, Global};
 use std::marker::Model;
-use std::slice::Iter;
 
 /// What one scope binds, in the order of binding, each number with its symbol in a slot. What is unbound leaves
-/// its slot empty, so that the others keep their positions.
+/// its slot empty, so that the others keep their positions. Most scopes have few slots, which lie in the scope
+/// itself; the others have a block of memory.
 #[derive(Drop)]
 pub struct ScopeSlots {
-    items: Vec<Option<(usize, SymbolId)>>,
+    near: NearSlots,
+    far: Vec<(u32, SymbolId)>,
     empty: usize,
 }
 
 impl Model for ScopeSlots {
-    ghost use Rattle.std.specs.Prelude.{ℕ, List, Option, ◌≡◌, ◌+◌, length};
-    ghost use Rattle.scoping_rows.specs.Flat.{filled};
+    ghost use Rattle.std.specs.Prelude.{ℕ, List, Option, map, ◌++◌};
+    ghost use Rattle.scoping_rows.specs.Slots.{stored_slot, AreStored};
 
     ghost Value = { List (Option (ℕ × ℕ)) };
 
-    ghost view = { λ a. a.items.items };
+    ghost view = { λ a. map stored_slot (a.near ++ a.far.items) };
 
-    ghost invariant = { λ a. a.empty + length (filled a.items.items) ≡ length a.items.items };
+    ghost invariant = { λ a. AreStored a.near a.far.items a.empty };
 }
 
-/// How many slots of a scope are searched one by one.
-pub const NEAR: usize = 8;
-
-/// How many numbers the slot binds.
-fn count_bound(slot: Option<(usize, SymbolId)>) -> usize
-    ensures { result ≡ length (option_to_list slot) }
+/// What a slot binds that is stored so.
+fn slot_bound(number: u32, symbol: SymbolId) -> Option<(usize, SymbolId)>
+    ensures { result ≡ stored_slot (number, symbol) }
 {
-    match slot {
-        Some(_) => 1,
-        None => 0,
+    if number == NO_NUMBER {
+        None
+    } else {
+        Some((number as usize, symbol))
     }
+}
+
+/// The number as it is stored. There are none that are larger.
+#[inline(always)]
+fn stored(number: usize) -> Option<u32>
+    ensures { MatchOption result (no_number ≤ number) (λ k. (k ≡ number) × (k < no_number)) }
+{
+    if number < NO_NUMBER as usize {
+        Some(number as u32)
+    } else {
+        None
+    }
+}
+
+/// How many numbers a slot binds that is stored so.
+fn count_bound(number: u32, symbol: SymbolId) -> usize
+    ensures { result ≡ length (option_to_list (stored_slot (number, symbol))) }
+{
+    if number == NO_NUMBER { 0 } else { 1 }
 }
 
 impl ScopeSlots {
@@ -49,7 +68,8 @@ impl ScopeSlots {
         ensures { result ≡ [] }
     {
         ScopeSlots {
-            items: Vec::new(alloc),
+            near: NearSlots::new(),
+            far: Vec::new(alloc),
             empty: 0,
         }
     }
@@ -58,52 +78,51 @@ impl ScopeSlots {
     pub fn len(&self) -> usize
         ensures { result ≡ length self.now }
     {
-        self.items.len()
+        self.near.len() + self.far.len()
     }
 
     /// How many of them are filled.
     pub fn bound_len(&self) -> usize
         ensures { result ≡ length (filled self.now) }
     {
-        self.items.len() - self.empty
+        self.len() - self.empty
     }
 
     /// Whether most of them are empty.
     pub fn is_sparse(&self) -> bool {
-        self.empty > self.items.len() / 2
+        self.empty > self.len() / 2
+    }
+
+    /// The slot at the position, as it is stored.
+    fn pair(&self, position: usize) -> (u32, SymbolId)
+        requires { position < length self.now }
+        ensures { stored_slot result ≡ slice_index_or self.now position None }
+    {
+        let near = self.near.len();
+        if position < near {
+            self.near.get(position)
+        } else {
+            self.far[position - near]
+        }
     }
 
     /// What the slot at the position binds.
     pub fn get(&self, position: usize) -> Option<(usize, SymbolId)>
         ensures { result ≡ slice_index_or self.now position None }
     {
-        match self.items.get(position) {
-            Some(slot) => *slot,
-            None => None,
+        if position >= self.len() {
+            return None;
         }
+        let (number, symbol) = self.pair(position);
+        slot_bound(number, symbol)
     }
 
     /// The position of the number's slot, if it is one of the first.
+    #[inline(always)]
     pub fn near_position(&self, number: usize) -> Option<usize>
         ensures { IsNearPlace self.now number result }
     {
-        for position in 0..self.items.len().min(NEAR) {
-            if self.binds(position, number) {
-                return Some(position);
-            }
-        }
-        None
-    }
-
-    /// Whether the slot at the position binds the number.
-    fn binds(&self, position: usize, number: usize) -> bool
-        requires { position < length self.now }
-        ensures { result ≡ slot_binds number (slice_index_or self.now position None) }
-    {
-        match &self.items[position] {
-            Some((bound, _)) => number == *bound,
-            None => false,
-        }
+        self.near.position_of(number)
     }
 
     /// What the slot at the position binds, if it isn't one of the first.
@@ -116,23 +135,46 @@ impl ScopeSlots {
         self.get(position)
     }
 
-    /// Adds a slot that binds the number to the symbol.
+    /// Adds a slot that binds the number to the symbol. Numbers from 4,294,967,295 on have no room.
     pub fn push(&mut self, number: usize, symbol: SymbolId) -> Result<(), AllocError>
         ensures ok { OnOk result (self.new ≡ self.old ++ Some (number, symbol) ∷ []) }
         ensures err { OnErr result (self.new ≡ self.old) }
     {
-        self.items.push(Some((number, symbol)))?;
+        let number = match stored(number) {
+            Some(number) => number,
+            None => return Err(AllocError),
+        };
+        if self.near.len() < NEAR {
+            self.near.push(number, symbol);
+            return Ok(());
+        }
+        self.far.push((number, symbol))?;
         Ok(())
     }
 
-    /// Makes the slot bind the number to the symbol.
-    pub fn fill(&mut self, position: usize, number: usize, symbol: SymbolId)
+    /// Stores the slot at the position.
+    fn put(&mut self, position: usize, number: u32, symbol: SymbolId)
         requires { position < length self.old }
-        ensures { self.new ≡ slice_set self.old position (Some (number, symbol)) }
+        ensures { self.new ≡ slice_set self.old position (stored_slot (number, symbol)) }
     {
-        let _count = self.items.len();
-        self.empty = self.empty + count_bound(self.get(position)) - 1;
-        self.items[position] = Some((number, symbol));
+        let (was, of) = self.pair(position);
+        self.empty = self.empty + count_bound(was, of) - count_bound(number, symbol);
+        let near = self.near.len();
+        if position < near {
+            self.near.put(position, number, symbol);
+        } else {
+            self.far[position - near] = (number, symbol);
+        }
+    }
+
+    /// Makes the slot bind its number to the symbol. An empty one stays so.
+    pub fn rebind(&mut self, position: usize, symbol: SymbolId)
+        requires { position < length self.old }
+        ensures { (n y : ℕ) → slice_index_or self.old position None ≡ Some (n, y)
+            → self.new ≡ slice_set self.old position (Some (n, symbol)) }
+    {
+        let (number, _) = self.pair(position);
+        self.put(position, number, symbol);
     }
 
     /// Empties the slot.
@@ -140,9 +182,20 @@ impl ScopeSlots {
         requires { position < length self.old }
         ensures { self.new ≡ slice_set self.old position None }
     {
-        let _count = self.items.len();
-        self.empty += count_bound(self.get(position));
-        self.items[position] = None;
+        let (_, symbol) = self.pair(position);
+        self.put(position, NO_NUMBER, symbol);
+    }
+
+    /// Empties one slot, and makes the other bind what that one bound.
+    pub fn relocate(&mut self, from: usize, to: usize)
+        requires from { from < length self.old }
+        requires to { to < length self.old }
+        ensures { self.new ≡ slice_set (slice_set self.old from None) to
+            (slice_index_or self.old from None) }
+    {
+        let (number, symbol) = self.pair(from);
+        self.put(from, NO_NUMBER, symbol);
+        self.put(to, number, symbol);
     }
 
     /// Drops the slots from the position on, which are empty.
@@ -151,7 +204,8 @@ impl ScopeSlots {
         ensures { self.new ≡ take position self.old }
     {
         self.empty -= self.len().saturating_sub(position);
-        self.items.truncate(position);
+        self.far.truncate(position.saturating_sub(self.near.len()));
+        self.near.truncate(position);
     }
 
     /// What the slots bind.
@@ -159,9 +213,22 @@ impl ScopeSlots {
         ensures { result ≡ filled self.now }
     {
         BoundIter {
-            slots: self.items.iter(),
+            slots: self,
+            position: 0,
             left: self.bound_len(),
         }
+    }
+
+    /// What the first slot from the position on binds that binds something, and the position behind it.
+    fn next_bound(&self, start: usize) -> Option<(usize, (usize, SymbolId))>
+        ensures { IsNextBound self.now start result }
+    {
+        for position in start..self.len() {
+            if let Some(bound) = self.get(position) {
+                return Some((position + 1, bound));
+            }
+        }
+        None
     }
 }
 
@@ -170,7 +237,8 @@ impl Clone for ScopeSlots {
 
     fn clone(&self) -> Result<ScopeSlots, AllocError> {
         Ok(ScopeSlots {
-            items: self.items.clone()?,
+            near: self.near.copied(),
+            far: self.far.clone()?,
             empty: self.empty,
         })
     }
@@ -179,21 +247,21 @@ impl Clone for ScopeSlots {
 /// The numbers with their symbols that are left.
 #[derive(Drop)]
 pub struct BoundIter<'s> {
-    slots: Iter<'s, Option<(usize, SymbolId)>>,
+    slots: &'s ScopeSlots,
+    position: usize,
     left: usize,
 }
 
 impl<'s> Model for BoundIter<'s> {
-    ghost use Rattle.std.specs.Prelude.{ℕ, List, ◌≡◌, length};
+    ghost use Rattle.std.specs.Prelude.{ℕ, List, ◌≡◌, length, drop};
 
     ghost Value = { List (ℕ × ℕ) };
 
-    ghost use Rattle.std.specs.Slice.Iter.{iter_rest};
     ghost use Rattle.scoping_rows.specs.Flat.{filled};
 
-    ghost view = { λ a. filled (iter_rest a.slots) };
+    ghost view = { λ a. filled (drop a.position a.slots.now) };
 
-    ghost invariant = { λ a. a.left ≡ length (filled (iter_rest a.slots)) };
+    ghost invariant = { λ a. a.left ≡ length (filled (drop a.position a.slots.now)) };
 }
 
 impl<'s> BoundIter<'s> {
@@ -205,19 +273,6 @@ impl<'s> BoundIter<'s> {
     }
 }
 
-/// What the first filled slot binds. The slots behind it are left.
-fn next_bound(slots: &mut Iter<'_, Option<(usize, SymbolId)>>) -> Option<(usize, SymbolId)>
-    ensures { TakesFirst (λ p. p) (filled (iter_rest slots.old)) result
-        (filled (iter_rest slots.new)) }
-{
-    while let Some(slot) = slots.next() {
-        if slot.is_some() {
-            return *slot;
-        }
-    }
-    None
-}
-
 impl<'s> Iterator for BoundIter<'s> {
     type Item = (usize, SymbolId);
 
@@ -226,7 +281,8 @@ impl<'s> Iterator for BoundIter<'s> {
     ghost remaining = { λ s. at_most (length s) };
 
     fn next(&mut self) -> Option<(usize, SymbolId)> {
-        let bound = next_bound(&mut self.slots)?;
+        let (position, bound) = self.slots.next_bound(self.position)?;
+        self.position = position;
         self.left -= 1;
         Some(bound)
     }

@@ -1,19 +1,25 @@
-use Rattle.std.proofs.Common.{◌≤◌, Some, length, arith}
+use Rattle.std.proofs.Common.{◌≤◌, None, Some, length, get_or, arith}
 use Rattle.scoping_rows.specs.Flat.{near, Retells}
 use Rattle.scoping_rows.proofs.Filled.{at_position, filled-fill, filled-push}
-use Rattle.scoping_rows.proofs.Indexed.{slot_within, told_elsewhere}
+use Rattle.scoping_rows.proofs.Indexed.{slot_of, slot_within, told_elsewhere}
 use Rattle.scoping_rows.proofs.Near.{indexed_again, indexed_near, indexed_far}
 use Rattle.semantic_syntax.proofs.Results.{from_ok}
 use Rattle.scoping_rows.proofs.binding_table.bind.Goals as goal
 
-pub fill-requires : goal.fill-requires
-fill-requires c = slot_within c.args.slots.now c.in-Some.position c.args.number (at_position c.args.slots.now c.args.number c.in-Some.position c.in-Some.ensures)
+pub rebind-requires : goal.rebind-requires
+rebind-requires c = slot_within c.args.slots.now c.in-Some.position c.args.number (at_position c.args.slots.now c.args.number c.in-Some.position c.in-Some.ensures)
 
 pub returns-in-Some-clause-positions : goal.returns-in-Some-clause-positions
-returns-in-Some-clause-positions c = rw c.fill.ensures (indexed_again c.args.positions.now.entries c.args.scope c.args.slots.now c.requires c.args.number c.args.symbol c.in-Some.position c.in-Some.ensures)
+returns-in-Some-clause-positions c =
+    let xs = c.args.slots.now in
+    let was = slot_of c.args.number (get_or xs c.in-Some.position None) (at_position xs c.args.number c.in-Some.position c.in-Some.ensures) in
+    rw (c.rebind.ensures c.args.number was.0 was.1) (indexed_again c.args.positions.now.entries c.args.scope xs c.requires c.args.number c.args.symbol c.in-Some.position c.in-Some.ensures)
 
 pub returns-in-Some-clause-ok : goal.returns-in-Some-clause-ok
-returns-in-Some-clause-ok c = rw c.fill.ensures (filled-fill c.args.number c.args.symbol c.in-Some.position c.args.slots.now c.in-Some.ensures)
+returns-in-Some-clause-ok c =
+    let xs = c.args.slots.now in
+    let was = slot_of c.args.number (get_or xs c.in-Some.position None) (at_position xs c.args.number c.in-Some.position c.in-Some.ensures) in
+    rw (c.rebind.ensures c.args.number was.0 was.1) (filled-fill c.args.number c.args.symbol c.in-Some.position xs c.in-Some.ensures)
 
 pub returns-then-position-lt-NEAR-clause-positions :
     goal.returns-then-position-lt-NEAR-clause-positions

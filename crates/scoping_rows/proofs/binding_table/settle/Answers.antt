@@ -23,11 +23,11 @@ retell-requires-clause-known c = told_far c.args.positions.now.entries c.args.sc
 
 pub returns-clause-positions : goal.returns-clause-positions
 returns-clause-positions c =
-    rw (c.fill.ensures, c.clear.ensures)
+    rw (c.relocate.ensures, ← c.in-Some.ensures)
     (indexed_move c.args.positions.now.entries c.args.scope c.args.slots.now c.requires.positions c.retell.new.positions.entries c.in-Some.bound.0 c.in-Some.bound.1 c.args.position (sym c.in-Some.ensures)
     c.args.packed c.requires.packed.behind c.requires.within c.requires.packed.gap c.retell.ensures.near c.retell.ensures.far)
 
 pub returns-clause-kept : goal.returns-clause-kept
 returns-clause-kept c =
-    rw (c.fill.ensures, c.clear.ensures)
+    rw (c.relocate.ensures, ← c.in-Some.ensures)
     (ap (rows_without_types c.args.rows.now) (filled-move c.args.packed c.args.position c.in-Some.bound c.args.slots.now c.requires.packed.behind (sym c.in-Some.ensures) c.requires.packed.gap))
