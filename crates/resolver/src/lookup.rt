@@ -17,6 +17,14 @@ use crate::rules::usable;
 use scoping::{BindingSource, NamePlace};
 use semantic_syntax::{Ident, ReferenceFlags, ScopeFlags, ScopeId, Steps, SymbolFlags, SymbolId};
 
+// Whether the text is `arguments`. Few names are asked it, so it stands out of line.
+#[inline(never)]
+fn is_spelled_arguments(text: &str) -> bool
+    ensures { result ≡ is_arguments_name (chars text.now) }
+{
+    text == "arguments"
+}
+
 // Whether the name is `arguments`. Its first letter is asked first, by which most names differ.
 fn is_named_arguments(name: Ident<'_>) -> bool
     ensures { result ≡ is_arguments_name (chars name.entry.text.now) }
@@ -25,7 +33,7 @@ fn is_named_arguments(name: Ident<'_>) -> bool
     if text.is_empty() {
         return false;
     }
-    text.as_bytes()[0] == b'a' && text == "arguments"
+    text.as_bytes()[0] == b'a' && is_spelled_arguments(text)
 }
 
 // Whether one of the references is named `arguments`. It reads the first letter of each name and does nothing else, so

@@ -37,6 +37,19 @@ impl Model for BindingTable {
     ghost invariant = { IsKept };
 }
 
+/// The position that the map tells of the number in the scope. Few scopes have slots with entries, so it stands out of line.
+#[inline(never)]
+fn entered_position(
+    positions: &IndexMap<(ScopeId, usize), usize>,
+    scope: ScopeId,
+    number: usize,
+) -> Option<usize>
+    ensures { result ≡ lookup (key_eq (scope, number)) positions.now.entries }
+{
+    let position = positions.get(&(scope, number))?;
+    Some(*position)
+}
+
 /// The position of the number's slot in the scope.
 #[inline(always)]
 fn position_of(
@@ -57,8 +70,7 @@ fn position_of(
     if slots.len() <= NEAR {
         return None;
     }
-    let position = positions.get(&(scope, number))?;
-    Some(*position)
+    entered_position(positions, scope, number)
 }
 
 /// The number leaves its slot at the position: the map tells of it no more.

@@ -8,7 +8,7 @@ returns-then-is_empty c =
     rw (← c.as_str-text.ensures) (sym (named_arguments text c.as_str-text.utf8 ∙ other_text text (empty_is_other text (sym c.is_empty.ensures ∙ c.if-is_empty.true))))
 
 pub returns-then-as_bytes-eq97 : goal.returns-then-as_bytes-eq97
-returns-then-as_bytes-eq97 c = rw (← c.as_str-text.ensures) (c.eq.ensures ∙ sym (named_arguments c.as_str-text.result.now c.as_str-text.utf8))
+returns-then-as_bytes-eq97 c = rw (← c.as_str-text.ensures) c.is_spelled_arguments.ensures
 
 pub returns-else-as_bytes-eq97 : goal.returns-else-as_bytes-eq97
 returns-else-as_bytes-eq97 c =

@@ -6,13 +6,7 @@ use Rattle.scoping_rows.proofs.binding_table.position_of.Goals as goal
 pub returns-in-Some : goal.returns-in-Some
 returns-in-Some c = found_near c.args.positions.now.entries c.args.scope c.args.slots.now c.requires c.args.number c.in-Some.position c.in-Some.ensures
 
-pub returns-in_err-position : goal.returns-in_err-position
-returns-in_err-position c =
-    subst (StandsAt c.args.slots.now c.args.number) (sym c.from_residual.ensures)
-    (subst (StandsAt c.args.slots.now c.args.number) (sym c.in_err-position.ensures.value)
-    (found_far c.args.positions.now.entries c.args.scope c.args.slots.now c.requires c.args.number c.in_default.ensures))
-
 pub returns : goal.returns
 returns c =
-    subst (StandsAt c.args.slots.now c.args.number) (sym c.in_ok-position.ensures.value)
+    subst (StandsAt c.args.slots.now c.args.number) (sym c.entered_position.ensures)
     (found_far c.args.positions.now.entries c.args.scope c.args.slots.now c.requires c.args.number c.in_default.ensures)
